@@ -1,0 +1,10 @@
+pub mod Growth
+pub mod Long
+pub mod LongReading
+pub mod Spelling
+pub mod Reading
+pub mod Writing
+pub mod Container
+pub mod ContainerReading
+pub mod ContainerWriting
+pub mod Lent

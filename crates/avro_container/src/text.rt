@@ -1,0 +1,110 @@
+//! The small types of which a header is made. Contracts see each as a list.
+
+ghost use Rattle.std.specs.Prelude.{◌≡◌, length};
+
+use std::marker::Model;
+
+/// A text, seen as its bytes.
+#[derive(Debug, Drop)]
+pub struct Text {
+    inner: Vec<u8>,
+}
+
+impl Model for Text {
+    ghost use Rattle.std.specs.Prelude.{ℕ, List};
+
+    ghost Value = { List ℕ };
+
+    ghost view = { λ t. t.inner.items };
+}
+
+impl Text {
+    pub fn new(inner: Vec<u8>) -> Text
+        ensures { result ≡ inner.items }
+    {
+        Text { inner }
+    }
+
+    pub fn inner(&self) -> &Vec<u8>
+        ensures { result.now.items ≡ self.now }
+    {
+        &self.inner
+    }
+
+    pub fn into_inner(self) -> Vec<u8>
+        ensures { result.items ≡ self }
+    {
+        let Text { inner } = self;
+        inner
+    }
+}
+
+/// Any bytes.
+#[derive(Debug, Drop)]
+pub struct Bytes {
+    inner: Vec<u8>,
+}
+
+impl Model for Bytes {
+    ghost use Rattle.std.specs.Prelude.{ℕ, List};
+
+    ghost Value = { List ℕ };
+
+    ghost view = { λ b. b.inner.items };
+}
+
+impl Bytes {
+    pub fn new(inner: Vec<u8>) -> Bytes
+        ensures { result ≡ inner.items }
+    {
+        Bytes { inner }
+    }
+
+    pub fn inner(&self) -> &Vec<u8>
+        ensures { result.now.items ≡ self.now }
+    {
+        &self.inner
+    }
+
+    pub fn into_inner(self) -> Vec<u8>
+        ensures { result.items ≡ self }
+    {
+        let Bytes { inner } = self;
+        inner
+    }
+}
+
+/// Keys, each with its value.
+#[derive(Debug, Drop)]
+pub struct MetaList {
+    inner: Vec<(Text, Bytes)>,
+}
+
+impl Model for MetaList {
+    ghost use Rattle.std.specs.Prelude.{ℕ, List};
+
+    ghost Value = { List (List ℕ × List ℕ) };
+
+    ghost view = { λ m. m.inner.items };
+}
+
+impl MetaList {
+    pub fn new(inner: Vec<(Text, Bytes)>) -> MetaList
+        ensures { result ≡ inner.items }
+    {
+        MetaList { inner }
+    }
+
+    pub fn inner(&self) -> &Vec<(Text, Bytes)>
+        ensures { result.now.items ≡ self.now }
+    {
+        &self.inner
+    }
+
+    pub fn into_inner(self) -> Vec<(Text, Bytes)>
+        ensures { result.items ≡ self }
+    {
+        let MetaList { inner } = self;
+        inner
+    }
+}

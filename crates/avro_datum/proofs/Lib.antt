@@ -1,0 +1,7 @@
+pub mod Schemas
+pub mod Puts
+pub mod Carrying
+pub mod Found
+pub mod Again
+pub mod Values
+pub mod Public

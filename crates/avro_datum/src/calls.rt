@@ -1,0 +1,89 @@
+//! The public calls.
+
+ghost use Rattle.std.specs.Prelude.{◌≡◌, ◌++◌, ℕ, List, drop, IfOk, OnOk, OnErr, Ok};
+ghost use Rattle.avro_schema.specs.Form.{form_of};
+ghost use Rattle.avro_datum.specs.Spelling.{Spells, IsSpelledAt, NoneAt, ValuesAreApart};
+ghost use Rattle.avro_datum.specs.Reading.{Makes, Ends, OnFault, read};
+ghost use Rattle.avro_datum.specs.Writing.{IsOf, written};
+ghost use Rattle.avro_datum.specs.declared.datum.Datum.{Datum};
+
+use crate::datum::Datum;
+use crate::decoding::value;
+use crate::encoding::put;
+use crate::fault::{DatumErr, SkipErr};
+use crate::skipping::past;
+use avro_schema::Schema;
+use std::alloc::{AllocError, Global};
+
+fn value_from(
+    alloc: Global,
+    schema: &Schema,
+    bytes: &[u8],
+    at: usize,
+) -> Result<(Datum, usize), DatumErr>
+    ensures { Makes bytes.now result (read (form_of schema.now) (drop at bytes.now)) }
+{
+    if at > bytes.len() {
+        return value(alloc, schema, bytes, bytes.len());
+    }
+    value(alloc, schema, bytes, at)
+}
+
+/// The value that begins at `at`, and where it ends. An `at` past the end reads as at the end.
+pub fn decode(
+    alloc: Global,
+    schema: &Schema,
+    bytes: &[u8],
+    at: usize,
+) -> Result<(Datum, usize), DatumErr>
+    ensures found { IfOk result (λ x. IsSpelledAt (form_of schema.now) x.0 bytes.now at x.1) }
+    ensures of_schema { IfOk result (λ x. IsOf (form_of schema.now) x.0) }
+    ensures none { OnFault result (NoneAt (form_of schema.now) bytes.now at) }
+    // Which fault it is, and where.
+    ensures exact { Makes bytes.now result (read (form_of schema.now) (drop at bytes.now)) }
+{
+    value_from(alloc, schema, bytes, at)
+}
+
+fn past_from(schema: &Schema, bytes: &[u8], at: usize) -> Result<usize, SkipErr>
+    ensures { Ends bytes.now result (read (form_of schema.now) (drop at bytes.now)) }
+{
+    if at > bytes.len() {
+        return past(schema, bytes, bytes.len());
+    }
+    past(schema, bytes, at)
+}
+
+/// Where the value ends that begins at `at`. It ends where `decode` ends, and refuses as `decode` does.
+pub fn skip(schema: &Schema, bytes: &[u8], at: usize) -> Result<usize, SkipErr>
+    ensures found { IfOk result (λ end. (d : Datum) × IsSpelledAt (form_of schema.now) d bytes.now at end) }
+    ensures none { OnErr result (NoneAt (form_of schema.now) bytes.now at) }
+    // Which fault it is, and where.
+    ensures exact { Ends bytes.now result (read (form_of schema.now) (drop at bytes.now)) }
+{
+    past_from(schema, bytes, at)
+}
+
+/// Writes the written spelling of the value at the end: shortest numbers, and arrays and maps in at most one block.
+pub fn encode(schema: &Schema, datum: &Datum, to: &mut Vec<u8>) -> Result<(), AllocError>
+    requires { IsOf (form_of schema.now) datum.now }
+    ensures written { OnOk result (to.new.items ≡ to.old.items ++ written (form_of schema.now) datum.now) }
+    ensures err { OnErr result (to.new.items ≡ to.old.items) }
+    ensures spells { OnOk result (Spells (form_of schema.now) datum.now (written (form_of schema.now) datum.now)) }
+    // What is written is read again, whatever follows it.
+    ensures again { OnOk result ((rest : List ℕ) → read (form_of schema.now) (written (form_of schema.now) datum.now ++ rest) ≡ Ok (datum.now, rest)) }
+{
+    let len = to.len();
+    match put(schema, datum, to) {
+        Ok(()) => Ok(()),
+        Err(e) => {
+            to.truncate(len);
+            Err(e)
+        }
+    }
+}
+
+/// No spelling of a value under a schema begins another, and each stands for one value.
+pub fn values_are_apart()
+    ensures { ValuesAreApart }
+{}

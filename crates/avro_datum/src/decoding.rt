@@ -1,0 +1,301 @@
+//! Values read.
+
+ghost use Rattle.std.specs.Prelude.{◌≡◌, IfOk, ◌<◌, ◌≤◌, ◌-◌, suc, length, drop, map};
+ghost use Rattle.avro_schema.specs.Form.{union, form_of, field_form, forms_of};
+ghost use Rattle.avro_container.specs.Reading.{string_at, items_at, blocks_at};
+ghost use Rattle.avro_datum.specs.Spelling.{most_items};
+ghost use Rattle.avro_datum.specs.Reading.{Makes, Adds, causes, entry_at, read, read_all};
+
+use crate::datum::{Datum, DatumList, PairList};
+use crate::fault::{DatumCause, DatumErr};
+use crate::pieces::{blob, block_head, int, is_sized, number, part, position, text_of, truth};
+use avro_schema::{Bytes, Field, Schema, Text};
+use sqlite_items::{Boxed, Items};
+use std::alloc::{AllocError, Global};
+
+/// Items of one array or map.
+const MOST_ITEMS: u64 = 16777216;
+
+#[tactic(auto, unfolding(avro_container::specs::Reading::string_at))]
+fn string(alloc: Global, bytes: &[u8], at: usize) -> Result<(Text, usize), DatumErr>
+    requires { at ≤ length bytes.now }
+    ensures { Makes bytes.now result (string_at causes (drop at bytes.now)) }
+{
+    let (found, end) = blob(bytes, at)?;
+    let Some(text) = text_of(found) else {
+        return Err(DatumErr::Bad {
+            at,
+            cause: DatumCause::BadUtf8,
+        });
+    };
+    Ok((Text::new(String::from_str(alloc, text)?), end))
+}
+
+fn copied(alloc: Global, bytes: &[u8]) -> Result<Bytes, AllocError>
+    ensures { IfOk result (λ b. b ≡ bytes.now) }
+{
+    Ok(Bytes::new(Vec::from_slice(alloc, bytes)?))
+}
+
+fn four(bytes: &[u8]) -> [u8; 4]
+    requires { length bytes.now ≡ 4 }
+    ensures { result ≡ bytes.now }
+{
+    let mut found = [0; 4];
+    found.copy_from_slice(bytes);
+    found
+}
+
+fn eight(bytes: &[u8]) -> [u8; 8]
+    requires { length bytes.now ≡ 8 }
+    ensures { result ≡ bytes.now }
+{
+    let mut found = [0; 8];
+    found.copy_from_slice(bytes);
+    found
+}
+
+#[cycle(decode)]
+#[tactic(auto, unfolding(crate::specs::Reading::read))]
+pub(crate) fn value(
+    alloc: Global,
+    schema: &Schema,
+    bytes: &[u8],
+    at: usize,
+) -> Result<(Datum, usize), DatumErr>
+    requires { at ≤ length bytes.now }
+    ensures { Makes bytes.now result (read (form_of schema.now) (drop at bytes.now)) }
+{
+    match schema {
+        Schema::Null => Ok((Datum::Null, at)),
+        Schema::Bool => {
+            let (found, end) = truth(bytes, at)?;
+            Ok((Datum::Bool(found), end))
+        }
+        Schema::Int(_) => {
+            let (n, end) = int(bytes, at)?;
+            Ok((Datum::Int(n), end))
+        }
+        Schema::Long(_) => {
+            let (n, end) = number(bytes, at)?;
+            Ok((Datum::Long(n), end))
+        }
+        Schema::Float4 => {
+            let (found, end) = part(bytes, at, 4)?;
+            Ok((Datum::Float4(four(found)), end))
+        }
+        Schema::Float8 => {
+            let (found, end) = part(bytes, at, 8)?;
+            Ok((Datum::Float8(eight(found)), end))
+        }
+        Schema::Blob(_) => {
+            let (found, end) = blob(bytes, at)?;
+            Ok((Datum::Blob(copied(alloc, found)?), end))
+        }
+        Schema::Str(_) => {
+            let (text, end) = string(alloc, bytes, at)?;
+            Ok((Datum::Str(text), end))
+        }
+        Schema::Fix { size, .. } => {
+            let (found, end) = part(bytes, at, *size as usize)?;
+            Ok((Datum::Fix(copied(alloc, found)?), end))
+        }
+        Schema::Choice { symbols, .. } => {
+            let (n, end) = position(symbols.as_slice().len(), bytes, at, DatumCause::BadEnum)?;
+            Ok((Datum::Choice(n), end))
+        }
+        Schema::List { item, .. } => {
+            let (items, end) = blocks(alloc, item.get(), bytes, at)?;
+            Ok((Datum::List(items), end))
+        }
+        Schema::Pairs { value: inner, .. } => {
+            let (items, end) = pair_blocks(alloc, inner.get(), bytes, at)?;
+            Ok((Datum::Pairs(items), end))
+        }
+        Schema::Fields { fields, .. } => {
+            let (items, end) = all(alloc, fields.as_slice(), bytes, at)?;
+            Ok((Datum::Fields(items), end))
+        }
+        Schema::Union { branches } => one(alloc, branches.as_slice(), bytes, at),
+    }
+}
+
+/// A record's fields.
+#[cycle(decode)]
+#[inline(never)]
+#[tactic(auto, unfolding(crate::specs::Reading::read))]
+fn all(
+    alloc: Global,
+    fields: &[Field],
+    bytes: &[u8],
+    at: usize,
+) -> Result<(DatumList, usize), DatumErr>
+    requires { at ≤ length bytes.now }
+    ensures { Makes bytes.now result (read_all (forms_of (map field_form fields.now)) (drop at bytes.now)) }
+{
+    let mut items = Items::from_vec(Vec::with_capacity(alloc, fields.len())?);
+    let mut end = at;
+    for field in fields {
+        let (item, after) = value(alloc, &field.schema, bytes, end)?;
+        items.push(item)?;
+        end = after;
+    }
+    Ok((items, end))
+}
+
+/// A branch of a union.
+#[cycle(decode)]
+#[inline(never)]
+#[tactic(auto, using(crate::proofs::Schemas::count_branches, crate::proofs::Schemas::nth_branch), unfolding(crate::specs::Reading::read))]
+fn one(
+    alloc: Global,
+    branches: &[Schema],
+    bytes: &[u8],
+    at: usize,
+) -> Result<(Datum, usize), DatumErr>
+    requires { at ≤ length bytes.now }
+    ensures { Makes bytes.now result (read (union (forms_of (map form_of branches.now))) (drop at bytes.now)) }
+{
+    let (branch, end) = position(branches.len(), bytes, at, DatumCause::BadBranch)?;
+    let (inner, end) = value(alloc, &branches[branch as usize], bytes, end)?;
+    Ok((Datum::Branch(branch, Boxed::new(alloc, inner)?), end))
+}
+
+/// An array.
+#[cycle(decode)]
+#[inline(never)]
+fn blocks(
+    alloc: Global,
+    item: &Schema,
+    bytes: &[u8],
+    at: usize,
+) -> Result<(DatumList, usize), DatumErr>
+    requires { at ≤ length bytes.now }
+    ensures { Makes bytes.now result (blocks_at causes (read (form_of item.now)) (suc (length (drop at bytes.now))) most_items (drop at bytes.now)) }
+{
+    let mut items = Items::new(alloc);
+    let mut end = at;
+    let mut room = MOST_ITEMS;
+    // Each block has a byte at least, so these turns are enough.
+    let turns = bytes.len() - at + 1;
+    for _ in 0..turns {
+        let (head, from) = block_head(bytes, end, room)?;
+        if head.count == 0 {
+            return Ok((items, from));
+        }
+        let after = some(alloc, item, head.count, bytes, from, &mut items)?;
+        if !is_sized(head.size, after.saturating_sub(from)) {
+            return Err(DatumErr::Bad {
+                at: from,
+                cause: DatumCause::BadSize,
+            });
+        }
+        room -= head.count;
+        end = after;
+    }
+    Err(DatumErr::Bad {
+        at: bytes.len(),
+        cause: DatumCause::Short,
+    })
+}
+
+/// So many items, put at the end of a list.
+#[cycle(decode)]
+#[tactic(auto, using(avro_container::proofs::Loops::items_next, avro_container::proofs::Loops::items_done))]
+fn some(
+    alloc: Global,
+    item: &Schema,
+    count: u64,
+    bytes: &[u8],
+    at: usize,
+    to: &mut DatumList,
+) -> Result<usize, DatumErr>
+    requires { at ≤ length bytes.now }
+    ensures { Adds bytes.now to.old to.new result (items_at (read (form_of item.now)) count (drop at bytes.now)) }
+{
+    let mut end = at;
+    for _ in 0..count {
+        let (found, after) = value(alloc, item, bytes, end)?;
+        to.push(found)?;
+        end = after;
+    }
+    Ok(end)
+}
+
+/// A map.
+#[cycle(decode)]
+#[inline(never)]
+fn pair_blocks(
+    alloc: Global,
+    inner: &Schema,
+    bytes: &[u8],
+    at: usize,
+) -> Result<(PairList, usize), DatumErr>
+    requires { at ≤ length bytes.now }
+    ensures { Makes bytes.now result (blocks_at causes (entry_at (read (form_of inner.now))) (suc (length (drop at bytes.now))) most_items (drop at bytes.now)) }
+{
+    let mut items = Items::new(alloc);
+    let mut end = at;
+    let mut room = MOST_ITEMS;
+    // Each block has a byte at least, so these turns are enough.
+    let turns = bytes.len() - at + 1;
+    for _ in 0..turns {
+        let (head, from) = block_head(bytes, end, room)?;
+        if head.count == 0 {
+            return Ok((items, from));
+        }
+        let after = pairs(alloc, inner, head.count, bytes, from, &mut items)?;
+        if !is_sized(head.size, after.saturating_sub(from)) {
+            return Err(DatumErr::Bad {
+                at: from,
+                cause: DatumCause::BadSize,
+            });
+        }
+        room -= head.count;
+        end = after;
+    }
+    Err(DatumErr::Bad {
+        at: bytes.len(),
+        cause: DatumCause::Short,
+    })
+}
+
+/// So many keys with their values, put at the end of a list.
+#[cycle(decode)]
+#[tactic(auto, using(avro_container::proofs::Loops::items_next, avro_container::proofs::Loops::items_done))]
+fn pairs(
+    alloc: Global,
+    inner: &Schema,
+    count: u64,
+    bytes: &[u8],
+    at: usize,
+    to: &mut PairList,
+) -> Result<usize, DatumErr>
+    requires { at ≤ length bytes.now }
+    ensures { Adds bytes.now to.old to.new result (items_at (entry_at (read (form_of inner.now))) count (drop at bytes.now)) }
+{
+    let mut end = at;
+    for _ in 0..count {
+        let (found, after) = entry(alloc, inner, bytes, end)?;
+        to.push(found)?;
+        end = after;
+    }
+    Ok(end)
+}
+
+/// A key and its value.
+#[cycle(decode)]
+#[tactic(auto, unfolding(crate::specs::Reading::entry_at))]
+fn entry(
+    alloc: Global,
+    inner: &Schema,
+    bytes: &[u8],
+    at: usize,
+) -> Result<((Text, Datum), usize), DatumErr>
+    requires { at ≤ length bytes.now }
+    ensures { Makes bytes.now result (entry_at (read (form_of inner.now)) (drop at bytes.now)) }
+{
+    let (key, end) = string(alloc, bytes, at)?;
+    let (found, end) = value(alloc, inner, bytes, end)?;
+    Ok(((key, found), end))
+}

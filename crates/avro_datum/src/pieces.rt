@@ -1,0 +1,184 @@
+//! The parts of which values are made, read without taking memory.
+
+ghost use Rattle.std.specs.Prelude.{◌≡◌, ◌≤◌, ◌<◌, length, drop, IfOk, MatchOption, true, false};
+ghost use Rattle.std.specs.Str.{is_utf8};
+ghost use Rattle.avro_container.specs.Reading.{number_at, length_at, bytes_at, blob_at, head_at, is_size};
+ghost use Rattle.avro_datum.specs.Reading.{Gives, GivesBy, Lends, causes, int_at, position_at, bool_at};
+ghost use Rattle.avro_datum.specs.declared.pieces.Head.{Head};
+
+use crate::fault::{DatumCause, SkipErr};
+use avro_container::{NumErr, read_long};
+
+/// What the head of a block of items says: their count, and their number of bytes where it states one.
+#[derive(Clone, Copy)]
+pub(crate) struct Head {
+    pub count: u64,
+    pub size: Option<i64>,
+}
+
+#[tactic(auto, unfolding(avro_container::specs::Reading::number_at))]
+pub(crate) fn number(bytes: &[u8], at: usize) -> Result<(i64, usize), SkipErr>
+    requires { at ≤ length bytes.now }
+    ensures { Gives bytes.now result (number_at causes (drop at bytes.now)) }
+{
+    match read_long(bytes, at) {
+        Ok(found) => Ok(found),
+        Err(NumErr::Short) => Err(SkipErr {
+            at: bytes.len(),
+            cause: DatumCause::Short,
+        }),
+        Err(NumErr::TooLong) => Err(SkipErr {
+            at,
+            cause: DatumCause::NumberTooLong,
+        }),
+    }
+}
+
+/// A number of 32 bits.
+#[tactic(auto, unfolding(crate::specs::Reading::int_at))]
+pub(crate) fn int(bytes: &[u8], at: usize) -> Result<(i32, usize), SkipErr>
+    requires { at ≤ length bytes.now }
+    ensures { Gives bytes.now result (int_at (drop at bytes.now)) }
+{
+    let (n, end) = number(bytes, at)?;
+    if n < -2147483648 || n > 2147483647 {
+        return Err(SkipErr {
+            at,
+            cause: DatumCause::NumberTooLong,
+        });
+    }
+    Ok((n as i32, end))
+}
+
+/// So many bytes.
+#[tactic(auto, unfolding(avro_container::specs::Reading::bytes_at))]
+pub(crate) fn part(bytes: &[u8], at: usize, n: usize) -> Result<(&[u8], usize), SkipErr>
+    requires { at ≤ length bytes.now }
+    ensures value { Lends bytes.now result (bytes_at causes n (drop at bytes.now)) }
+    ensures count { IfOk result (λ x. length x.0.now ≡ n) }
+{
+    if bytes.len() - at < n {
+        return Err(SkipErr {
+            at: bytes.len(),
+            cause: DatumCause::Short,
+        });
+    }
+    Ok((&bytes[at..at + n], at + n))
+}
+
+#[tactic(auto, unfolding(avro_container::specs::Reading::length_at))]
+fn length(bytes: &[u8], at: usize) -> Result<(usize, usize), SkipErr>
+    requires { at ≤ length bytes.now }
+    ensures { Gives bytes.now result (length_at causes (drop at bytes.now)) }
+{
+    let (n, end) = number(bytes, at)?;
+    if n < 0 {
+        return Err(SkipErr {
+            at,
+            cause: DatumCause::NegativeLength,
+        });
+    }
+    Ok((n as usize, end))
+}
+
+/// A length, and so many bytes.
+#[tactic(auto, unfolding(avro_container::specs::Reading::blob_at))]
+pub(crate) fn blob(bytes: &[u8], at: usize) -> Result<(&[u8], usize), SkipErr>
+    requires { at ≤ length bytes.now }
+    ensures { Lends bytes.now result (blob_at causes (drop at bytes.now)) }
+{
+    let (len, from) = length(bytes, at)?;
+    let (found, end) = part(bytes, from, len)?;
+    Ok((found, end))
+}
+
+/// The bytes as a text, where they are UTF-8.
+pub(crate) fn text_of(bytes: &[u8]) -> Option<&str>
+    ensures { MatchOption result (is_utf8 bytes.now ≡ false) (λ t. (is_utf8 bytes.now ≡ true) × (t.now ≡ bytes.now)) }
+{
+    match str::from_utf8(bytes) {
+        Ok(text) => Some(text),
+        Err(_) => None,
+    }
+}
+
+/// A position below `count`; any other is the fault `above`.
+#[tactic(auto, unfolding(crate::specs::Reading::position_at))]
+pub(crate) fn position(
+    count: usize,
+    bytes: &[u8],
+    at: usize,
+    above: DatumCause,
+) -> Result<(u32, usize), SkipErr>
+    requires { at ≤ length bytes.now }
+    ensures within { IfOk result (λ x. x.0 < count) }
+    ensures value { Gives bytes.now result (position_at above count (drop at bytes.now)) }
+{
+    let (n, end) = number(bytes, at)?;
+    if n < 0 || n as u64 >= count as u64 || n > 4294967295 {
+        return Err(SkipErr { at, cause: above });
+    }
+    Ok((n as u32, end))
+}
+
+/// One byte, 0 or 1.
+#[tactic(auto, unfolding(crate::specs::Reading::bool_at))]
+pub(crate) fn truth(bytes: &[u8], at: usize) -> Result<(bool, usize), SkipErr>
+    requires { at ≤ length bytes.now }
+    ensures { Gives bytes.now result (bool_at (drop at bytes.now)) }
+{
+    match &bytes[at..] {
+        [] => Err(SkipErr {
+            at: bytes.len(),
+            cause: DatumCause::Short,
+        }),
+        [0, ..] => Ok((false, at + 1)),
+        [1, ..] => Ok((true, at + 1)),
+        [_, ..] => Err(SkipErr {
+            at,
+            cause: DatumCause::BadBool,
+        }),
+    }
+}
+
+/// The head of a block of which no more than `room` items may come.
+#[tactic(auto, unfolding(avro_container::specs::Reading::head_at))]
+pub(crate) fn block_head(bytes: &[u8], at: usize, room: u64) -> Result<(Head, usize), SkipErr>
+    requires { at ≤ length bytes.now }
+    ensures within { IfOk result (λ x. x.0.count ≤ room) }
+    ensures value { GivesBy (λ (h : Head). (h.count, h.size)) bytes.now result (head_at causes room (drop at bytes.now)) }
+{
+    let (n, from) = number(bytes, at)?;
+    let count = n.unsigned_abs();
+    if count > room {
+        return Err(SkipErr {
+            at,
+            cause: DatumCause::TooMany,
+        });
+    }
+    if n >= 0 {
+        return Ok((Head { count, size: None }, from));
+    }
+    let (size, from) = number(bytes, from)?;
+    Ok((
+        Head {
+            count,
+            size: Some(size),
+        },
+        from,
+    ))
+}
+
+pub(crate) fn is_sized(size: Option<i64>, len: usize) -> bool
+    ensures { result ≡ is_size size len }
+{
+    match size {
+        None => true,
+        Some(size) => {
+            if size < 0 {
+                return false;
+            }
+            size as u64 == len as u64
+        }
+    }
+}

@@ -1,0 +1,10 @@
+mod Again
+mod FormLaws
+mod Found
+mod KindLaws
+mod Lists
+mod NameLaws
+mod Public
+mod ReadBack
+mod Rewritten
+mod WriteLists

@@ -1,0 +1,10 @@
+pub mod Attribute
+pub mod Form
+pub mod Logical
+pub mod Names
+pub mod Path
+pub mod Primitive
+pub mod Reading
+pub mod Spelling
+pub mod Writing
+pub mod Writable

@@ -1,0 +1,5 @@
+pub mod Table
+pub mod Numbers
+pub mod Options
+pub mod Forms
+pub mod Check

@@ -1,0 +1,9 @@
+pub mod KeywordLaws
+pub mod ValueLaws
+pub mod StateLaws
+pub mod Complete
+pub mod Reading
+pub mod Unambiguous
+pub mod Written
+pub mod Again
+pub mod Readable

@@ -1,0 +1,28 @@
+//! Statements as texts: after the `CALL` form of Iceberg's Spark procedures.
+//!
+//! - `call`: a statement as it stands, with nothing said yet of its procedure or the types of its values.
+//! - `read`, `write`: a text is read as a statement, and a statement written as a text.
+//! - `keyword`: the words of the language.
+//! - `state`, `value_state`: how far a statement, and a value in it, was read.
+//! - `error`: why a text isn't read.
+//! - `laws`: what the definitions exclude, and that every statement that is read can be written.
+//!
+//! The grammar is defined in `specs/Grammar.antt`, production by production.
+#![tactic(auto)]
+
+mod call;
+mod error;
+mod keyword;
+mod laws;
+mod read;
+mod state;
+#[cfg(test)]
+mod tests;
+mod value_state;
+mod write;
+
+pub use call::{Arg, ArgList, ArgValue, Call, PairTexts};
+pub use error::SyntaxErr;
+pub use laws::{read_calls_can_be_written, statements_are_unambiguous};
+pub use read::read_statement;
+pub use write::write_statement;

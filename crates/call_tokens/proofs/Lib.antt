@@ -1,0 +1,5 @@
+pub mod Positions
+pub mod Shorter
+pub mod Longest
+pub mod Spelled
+pub mod Found

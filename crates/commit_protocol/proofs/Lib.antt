@@ -1,0 +1,6 @@
+pub mod OpeningLaws
+pub mod CommitLaws
+pub mod StepLaws
+pub mod QuietLaws
+pub mod VerdictLaws
+pub mod UniqueLaws

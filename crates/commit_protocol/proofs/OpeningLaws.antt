@@ -1,0 +1,49 @@
+-- Laws of opening a table: from the opened bytes to its metadata.
+use Rattle.std.proofs.Common.{◌≡◌, ℕ, List, [], Result, Ok, Err, inl, inr, sym, subst}
+use Rattle.serde_json.specs.View.{view}
+use Rattle.ice_store.specs.Places.{Parts}
+use Rattle.ice_store.specs.declared.history.Past.{Past}
+use Rattle.ice_store.specs.declared.history.Step.{Step}
+use Rattle.ice_store.specs.declared.faults.ReadErr.TheVariants.{Missing, Damaged, Unsupported, StoreFault, Memory}
+use Rattle.table_history.specs.Tables.{GoodBy, ReachBy}
+use Rattle.table_history.specs.Runs.{Ran}
+use Rattle.table_history.proofs.Running.{ran_turned}
+use Rattle.table_publish.specs.Stages.{Exactly, Anything, At as Stands}
+use Rattle.version_open.specs.Opening.{OpenStage, IsOpened, OpenLeaves}
+use Rattle.version_open.specs.Latest.{IsBaseNumber}
+use Rattle.version_open.specs.declared.types.Opened.{Opened}
+use Rattle.version_open.specs.declared.types.OpenErr.{OpenErr}
+use Rattle.version_open.specs.declared.types.OpenErr.TheVariants.{NoTable, LocationDiffers, Read}
+use Rattle.commit_protocol.specs.Metadata.{IsMetadata, ReadsTable, IsAt, OpenErrLeaves, TableLeaves}
+use Rattle.commit_protocol.specs.declared.opening.At.{At}
+
+module _ (number : Parts → ℕ) (Good : GoodBy) (Reached : ReachBy) (allows : Past → Step → Type 0) (table : Parts) where
+  module _ (o : Opened) (old now : Past) (opened : IsOpened number Good Reached allows o.place o.text old now) (numbers : IsBaseNumber number o.place o.version) where
+    at_of : (at : At) → (at.place ≡ o.place) × (at.version ≡ o.version) × (at.text ≡ o.text) × IsMetadata table o.text (view at.meta) → IsAt number Good Reached allows table at old now
+    at_of at (place, version, text, metadata) = record {
+      opened = subst (λ (p : Parts). IsOpened number Good Reached allows p at.text old now) (sym place) (subst (λ (t : List ℕ). IsOpened number Good Reached allows o.place t old now) (sym text) opened);
+      numbers = subst (λ (p : Parts). IsBaseNumber number p at.version) (sym place) (subst (λ (v : ℕ). IsBaseNumber number o.place v) (sym version) numbers);
+      metadata = subst (λ (t : List ℕ). IsMetadata table t (view at.meta)) (sym text) metadata;
+    }
+
+    forgotten : Ran number Good Reached allows (Exactly []) Anything old now
+    forgotten = ran_turned number Good Reached allows (Exactly []) (Exactly []) (Stands (OpenStage number o.place)) Anything old now opened.listed.run (λ l e. e) (λ h. tt)
+
+    pub table_by : (r : Result At OpenErr) → ReadsTable table o r → TableLeaves number Good Reached allows table r old now
+    table_by (Ok at) r = at_of at r
+    table_by (Err (NoTable place)) r = absurd r
+    table_by (Err (LocationDiffers place location)) r = (r.0, (o.place, record { text = o.text; opened = opened; holds = r.1 }))
+    table_by (Err (Read (Missing place))) r = absurd r
+    table_by (Err (Read (Damaged place at))) r = record { text = o.text; opened = subst (λ (p : Parts). IsOpened number Good Reached allows p o.text old now) (sym r.0) opened; holds = r.1 }
+    table_by (Err (Read (Unsupported place what))) r = inr (record { text = o.text; opened = subst (λ (p : Parts). IsOpened number Good Reached allows p o.text old now) (sym r.0) opened; holds = r.1 })
+    table_by (Err (Read (StoreFault place))) r = absurd r
+    table_by (Err (Read Memory)) r = forgotten
+
+  pub unopened_by : (e : OpenErr) (old now : Past) → OpenLeaves number Good Reached allows table (Err e) old now → OpenErrLeaves number Good Reached allows table e old now
+  unopened_by (NoTable place) old now r = r
+  unopened_by (LocationDiffers place location) old now r = absurd r
+  unopened_by (Read (Missing place)) old now r = r
+  unopened_by (Read (Damaged place at)) old now r = absurd r
+  unopened_by (Read (Unsupported place what)) old now r = inl r
+  unopened_by (Read (StoreFault place)) old now r = r
+  unopened_by (Read Memory) old now r = r

@@ -1,0 +1,122 @@
+-- However a commit ends, its steps were proper, and each stop within it is safe.
+use Rattle.std.proofs.Common.{◌≡◌, ◌⊎◌, inl, inr, ℕ, true, false, List, [], ◌∷◌, ◌++◌, Result, Ok, Err}
+use Rattle.serde_json.specs.Data.{Data}
+use Rattle.ice_store.specs.Places.{Parts}
+use Rattle.ice_store.specs.Files.{is_named}
+use Rattle.ice_store.specs.declared.history.Past.{Past}
+use Rattle.ice_store.specs.declared.history.Step.{Step}
+use Rattle.ice_store.specs.declared.history.Step.TheVariants.{Rename, Remove, SyncNames}
+use Rattle.ice_store.specs.declared.faults.What.TheVariants.{Codec, FormatVersion, Transform, SchemaSize, BlockBytes, ItemCount, FileBytes, GroupBytes, NoManifestList, VersionNumber, Sequence}
+use Rattle.ice_store.specs.declared.faults.ReadErr.{ReadErr}
+use Rattle.ice_store.specs.declared.faults.ReadErr.TheVariants.{Missing, Damaged, Unsupported, StoreFault, Memory}
+use Rattle.table_history.specs.Tables.{GoodBy, ReachBy, version}
+use Rattle.table_history.specs.Runs.{Ran}
+use Rattle.table_history.proofs.Running.{ran_then, ran_turned}
+use Rattle.table_publish.specs.Stages.{Anything, Exactly, At as Stands, IsLost, IsBased, IsPublished, Partly, Reaching, draft_plan}
+use Rattle.table_publish.specs.Leaves.{PublishLeaves}
+use Rattle.table_publish.specs.declared.publish.PublishErr.{PublishErr}
+use Rattle.table_publish.specs.declared.publish.PublishErr.TheVariants as publishes
+use Rattle.version_open.specs.Opening.{IsOpened, OpenStage, IsBeyond, IsLong, ReadErrLeaves}
+use Rattle.version_open.specs.declared.types.OpenErr.{OpenErr}
+use Rattle.version_open.specs.declared.types.OpenErr.TheVariants.{NoTable, LocationDiffers, Read}
+use Rattle.commit_protocol.specs.Metadata.{OpenErrLeaves}
+use Rattle.commit_protocol.specs.Attempts.{PublishedBy, AttemptLeaves, CommitLeaves, Attempted}
+use Rattle.commit_protocol.specs.declared.opening.At.{At}
+use Rattle.commit_protocol.specs.declared.errors.AttemptErr.{AttemptErr}
+use Rattle.commit_protocol.specs.declared.errors.AttemptErr.TheVariants as attempts
+use Rattle.commit_protocol.specs.declared.errors.CommitErr.{CommitErr}
+use Rattle.commit_protocol.specs.declared.errors.CommitErr.TheVariants.{Open, Attempt, Contended, CommitUnknown}
+use Rattle.commit_protocol.specs.declared.errors.Committed.{Committed}
+use Rattle.commit_protocol.specs.declared.errors.Committed.TheVariants.{Same, Published}
+
+module _ (number : Parts → ℕ) (Good : GoodBy) (Reached : ReachBy) (allows : Past → Step → Type 0) where
+  abbrev pub Some_steps : List Step → Type 0
+  Some_steps steps = Unit {0}
+
+  abbrev pub Steps : Past → Past → Type 0
+  Steps = Ran number Good Reached allows Some_steps Anything
+
+  pub some : (M : List Step → Type 0) (K : Past → Type 0) (old new : Past) → Ran number Good Reached allows M K old new → Steps old new
+  some M K old new run = ran_turned number Good Reached allows M Some_steps K Anything old new run (λ l m. tt) (λ k. tt)
+
+  pub both : (old mid new : Past) → Steps old mid → Steps mid new → Steps old new
+  both old mid new a b = ran_then number Good Reached allows Some_steps Some_steps Some_steps Anything Anything (λ l k m n. tt) old mid new a b
+
+  opened_steps : (base : Parts) (text : List ℕ) (old now : Past) → IsOpened number Good Reached allows base text old now → Steps old now
+  opened_steps base text old now o = some (Exactly []) (Stands (OpenStage number base)) old now o.listed.run
+
+  read_err_steps : (e : ReadErr) (old now : Past) → ReadErrLeaves number Good Reached allows e old now → Steps old now
+  read_err_steps (Missing place) old now r = some (Exactly []) (Stands (λ d. is_named d.files place ≡ false)) old now r.run
+  read_err_steps (Damaged place at) old now r = absurd r
+  read_err_steps (Unsupported place VersionNumber) old now r = some (Exactly []) (Stands (λ d. IsBeyond number place d.files)) old now r
+  read_err_steps (Unsupported place FileBytes) old now r = some (Exactly []) (Stands (λ d. IsLong place d.files)) old now r.run
+  read_err_steps (Unsupported place Codec) old now r = absurd r
+  read_err_steps (Unsupported place FormatVersion) old now r = absurd r
+  read_err_steps (Unsupported place Transform) old now r = absurd r
+  read_err_steps (Unsupported place SchemaSize) old now r = absurd r
+  read_err_steps (Unsupported place BlockBytes) old now r = absurd r
+  read_err_steps (Unsupported place ItemCount) old now r = absurd r
+  read_err_steps (Unsupported place GroupBytes) old now r = absurd r
+  read_err_steps (Unsupported place NoManifestList) old now r = absurd r
+  read_err_steps (Unsupported place Sequence) old now r = absurd r
+  read_err_steps (StoreFault place) old now r = some (Exactly []) Anything old now r
+  read_err_steps Memory old now r = some (Exactly []) Anything old now r
+
+  pub open_err_steps : (table : Parts) (e : OpenErr) (old now : Past) → OpenErrLeaves number Good Reached allows table e old now → Steps old now
+  open_err_steps table (NoTable place) old now r = some (Exactly []) (Stands (λ d. version number d.files ≡ 0)) old now r.1
+  open_err_steps table (LocationDiffers place location) old now r = opened_steps r.1.0 r.1.1.text old now r.1.1.opened
+  open_err_steps table (Read (Missing place)) old now r = read_err_steps (Missing place) old now r
+  open_err_steps table (Read (Damaged place at)) old now r = opened_steps place r.text old now r.opened
+  open_err_steps table (Read (Unsupported place what)) old now (inl r) = read_err_steps (Unsupported place what) old now r
+  open_err_steps table (Read (Unsupported place what)) old now (inr r) = opened_steps place r.text old now r.opened
+  open_err_steps table (Read (StoreFault place)) old now r = read_err_steps (StoreFault place) old now r
+  open_err_steps table (Read Memory) old now r = read_err_steps Memory old now r
+
+  pub publish_steps : (base : Parts) (text : List ℕ) (target draft : Parts) (bytes : List ℕ) (r : Result (Unit {0}) PublishErr) (old new : Past) → PublishLeaves number Good Reached allows base text target draft bytes r old new → Steps old new
+  publish_steps base text target draft bytes (Ok u) old new run = some (Exactly (draft_plan draft bytes ++ (Rename draft target ∷ SyncNames ∷ []))) (IsPublished number text bytes (IsBased number Good Reached base text old)) old new run
+  publish_steps base text target draft bytes (Err publishes.NameTaken) old new run = some (Exactly []) (Stands (λ d. is_named d.files draft ≡ true)) old new run
+  publish_steps base text target draft bytes (Err publishes.Contended) old new run = some (Exactly (draft_plan draft bytes ++ (Remove draft ∷ SyncNames ∷ []))) (Stands (IsLost target)) old new run
+  publish_steps base text target draft bytes (Err publishes.Unknown) old new run = some (Reaching draft bytes target) Anything old new run
+  publish_steps base text target draft bytes (Err (publishes.Fault call)) old new run = some (Partly draft bytes) Anything old new run
+  publish_steps base text target draft bytes (Err publishes.NoMemory) old new run = some (λ l. Partly draft bytes l ⊎ Reaching draft bytes target l) Anything old new run
+
+  module _ (successor : Data → Data → Type 0) (same : Data → Type 0) (refuses : Data → AttemptErr → Type 0) (seen : Data → Type 0) (Drawn : ℕ → Type 0) (table : Parts) (now : ℕ) where
+    module _ (at : At) (old new : Past) where
+      abbrev pub Attempts : Result Committed CommitErr → Type 0
+      Attempts r = AttemptLeaves number Good Reached allows successor same refuses seen Drawn table now at r old new
+
+      idle : Ran number Good Reached allows (Exactly []) Anything old new → Steps old new
+      idle run = some (Exactly []) Anything old new run
+
+      published : (r : Result (Unit {0}) PublishErr) → PublishedBy number Good Reached allows successor same refuses seen Drawn table now at r old new → Steps old new
+      published r p = publish_steps at.place at.text p.drafted.target p.drafted.draft p.drafted.bytes r old new p.left
+
+      pub attempt_steps : (r : Result Committed CommitErr) → Attempts r → Steps old new
+      attempt_steps (Ok (Same v)) a = idle a.4
+      attempt_steps (Ok (Published v)) a = published (Ok tt) a.3
+      attempt_steps (Err (Open e)) a = absurd a
+      attempt_steps (Err (Attempt (attempts.Refused refusal))) a = idle a.idle
+      attempt_steps (Err (Attempt (attempts.Conflict place other))) a = idle a.idle
+      attempt_steps (Err (Attempt (attempts.NameTaken place))) (inl a) = idle a.idle
+      attempt_steps (Err (Attempt (attempts.NameTaken place))) (inr a) = publish_steps at.place at.text a.drafted.target a.drafted.draft a.drafted.bytes (Err publishes.NameTaken) old new a.left
+      attempt_steps (Err (Attempt (attempts.Read (Missing place)))) a = idle a.idle
+      attempt_steps (Err (Attempt (attempts.Read (Damaged place where_)))) (inl a) = idle a.idle
+      attempt_steps (Err (Attempt (attempts.Read (Damaged place where_)))) (inr a) = idle a.3
+      attempt_steps (Err (Attempt (attempts.Read (Unsupported place what)))) (inl a) = idle a.idle
+      attempt_steps (Err (Attempt (attempts.Read (Unsupported place what)))) (inr a) = idle a.3
+      attempt_steps (Err (Attempt (attempts.Read (StoreFault place)))) (inl a) = idle a.idle
+      attempt_steps (Err (Attempt (attempts.Read (StoreFault place)))) (inr a) = publish_steps at.place at.text a.drafted.target a.drafted.draft a.drafted.bytes (Err (publishes.Fault a.call)) old new a.left
+      attempt_steps (Err (Attempt (attempts.Read Memory))) (inl a) = idle a
+      attempt_steps (Err (Attempt (attempts.Read Memory))) (inr a) = published (Err publishes.NoMemory) a
+      attempt_steps (Err (Contended v)) a = published (Err publishes.Contended) a.2
+      attempt_steps (Err (CommitUnknown v)) a = published (Err publishes.Unknown) a.2
+
+    attempted_steps : (r : Result Committed CommitErr) (old new : Past) → Attempted number Good Reached allows successor same refuses seen Drawn table now r old new → Steps old new
+    attempted_steps r old new a = both old a.mid new (opened_steps a.at.place a.at.text old a.mid a.opened.opened) (attempt_steps a.at a.mid new r a.then)
+
+    pub commit_steps : (r : Result Committed CommitErr) (old new : Past) → CommitLeaves number Good Reached allows successor same refuses seen Drawn table now r old new → Steps old new
+    commit_steps (Ok c) old new a = attempted_steps (Ok c) old new a
+    commit_steps (Err (Open e)) old new a = open_err_steps table e old new a
+    commit_steps (Err (Attempt e)) old new a = attempted_steps (Err (Attempt e)) old new a
+    commit_steps (Err (Contended v)) old new a = attempted_steps (Err (Contended v)) old new a
+    commit_steps (Err (CommitUnknown v)) old new a = attempted_steps (Err (CommitUnknown v)) old new a

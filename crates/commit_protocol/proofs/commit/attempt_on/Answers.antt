@@ -1,0 +1,115 @@
+use Rattle.std.proofs.Common.{Ok, Err, sym, ◌∙◌, subst, arith, true≢false}
+use Rattle.ice_store.specs.Given.{Gives}
+use Rattle.ice_store.specs.Since.{Since}
+use Rattle.ice_store.proofs.SinceLaws.{since_start, since_then, since_turned}
+use Rattle.serde_json.specs.View.{view}
+use Rattle.table_history.specs.Versions.{number_in}
+use Rattle.table_metadata.specs.Edits.{HasVersionLimit}
+use Rattle.table_publish.specs.Stages.{Narrow, NoReach, At as Stands}
+use Rattle.version_open.specs.Opening.{OpenStage}
+use Rattle.commit_protocol.specs.Metadata.{IsTableOf}
+use Rattle.commit_protocol.specs.Written.{PublishedLeaves}
+use Rattle.commit_protocol.specs.Attempts.{MakesOf, AttemptLeaves}
+use Rattle.commit_protocol.specs.declared.change.Built.{Built}
+use Rattle.commit_protocol.specs.declared.change.Built.TheVariants.{Same as Unchanged, Next}
+use Rattle.commit_protocol.specs.declared.errors.CommitErr.TheVariants.{Attempt}
+use Rattle.commit_protocol.specs.declared.errors.Committed.TheVariants.{Same}
+use Rattle.commit_protocol.proofs.CommitLaws as laws
+use Rattle.commit_protocol.proofs.commit.attempt_on.Goals as goal
+
+pub returns-then-not-has_version_limit-clause-told : goal.returns-then-not-has_version_limit-clause-told
+returns-then-not-has_version_limit-clause-told g c =
+    let t = c.args.table.now in
+    let allows = g.M.Manners.allows (g.S.Store.manners c.args.store.now) in
+    let number = number_in t in
+    let Good = Narrow IsTableOf t in
+    let at = c.args.at in
+    let p0 = g.S.Store.past c.args.store.now in
+    let successor = g.X.Change.successor c.args.change.now in
+    let same = g.X.Change.same c.args.change.now in
+    let refuses = g.X.Change.refuses c.args.change.now in
+    let KO = Stands (OpenStage number at.place) in
+    let seen = g.X.Change.seen c.args.change.now c.args.change.now in
+    let Drawn = Gives (g.I.Ids.given c.args.ids.now) (g.I.Ids.given c.args.ids.now) in
+    let Leaves = AttemptLeaves number Good NoReach allows successor same refuses seen Drawn t c.args.now at in
+    let none : HasVersionLimit (view at.meta) → ⊥ = λ h. true≢false (sym (c.has_version_limit.ensures.1 h) ∙ grind (arith, c.if-not-has_version_limit.true)) in
+    let e = c.unreadable_limit.result in
+    since_start p0 KO (Leaves (Err e)) c.requires.start
+    (λ old here. laws.unlimited_by t allows c.requires.mannered c.args.now Drawn at successor same refuses seen e old old c.unreadable_limit.ensures none (laws.stays t allows c.requires.mannered c.args.now Drawn at KO old here))
+
+pub returns-then-not-has_version_limit-clause-cause : goal.returns-then-not-has_version_limit-clause-cause
+returns-then-not-has_version_limit-clause-cause g c = laws.limit_rose c.args.at.place c.unreadable_limit.result (g.S.Store.faults c.args.store.now) c.unreadable_limit.ensures
+
+pub returns-then-not-has_version_limit-clause-left : goal.returns-then-not-has_version_limit-clause-left
+returns-then-not-has_version_limit-clause-left g c =
+    let Drawn = Gives (g.I.Ids.given c.args.ids.now) (g.I.Ids.given c.args.ids.now) in
+    laws.limit_left c.args.at.place c.unreadable_limit.result Drawn c.args.table.now c.args.log.now.left.items c.unreadable_limit.ensures
+
+pub returns-in-Ok-Next-clause-told : goal.returns-in-Ok-Next-clause-told
+returns-in-Ok-Next-clause-told g c =
+    let t = c.args.table.now in
+    let allows = g.M.Manners.allows (g.S.Store.manners c.args.store.now) in
+    let number = number_in t in
+    let Good = Narrow IsTableOf t in
+    let at = c.args.at in
+    let p0 = g.S.Store.past c.args.store.now in
+    let successor = g.X.Change.successor c.args.change.now in
+    let same = g.X.Change.same c.args.change.now in
+    let refuses = g.X.Change.refuses c.args.change.now in
+    let KO = Stands (OpenStage number at.place) in
+    let seen = g.X.Change.seen c.args.change.now c.attempt.new.self in
+    let p1 = g.S.Store.past c.attempt.new.store in
+    let p2 = g.S.Store.past c.publish_built.new.store in
+    let last = g.I.Ids.given c.publish_built.new.ids in
+    let Drawn = Gives (g.I.Ids.given c.args.ids.now) last in
+    let built = view c.in-Ok-Next.meta in
+    let r = c.publish_built.result in
+    let limit = c.has_version_limit.ensures.0 (grind (arith, c.if-not-has_version_limit.false)) in
+    let made : MakesOf successor same (view at.meta) (Next c.in-Ok-Next.meta) = subst (λ (b : Built). MakesOf successor same (view at.meta) b) c.in-Ok-Next.field-0-is c.in-Ok-Next.ensures.built in
+    let by_manners = subst (λ m. Since p1 p2 (PublishedLeaves number Good NoReach (g.M.Manners.allows m) (Gives (g.I.Ids.given c.attempt.new.ids) last) t c.args.now at built r)) c.in-Ok-Next.ensures.manners c.publish_built.ensures.told in
+    let by_ids = subst (λ i. Since p1 p2 (PublishedLeaves number Good NoReach allows (Gives i last) t c.args.now at built r)) c.in-Ok-Next.ensures.drawn by_manners in
+    since_then p0 p1 p2 (laws.Idle_ t allows c.requires.mannered c.args.now Drawn at KO) (PublishedLeaves number Good NoReach allows Drawn t c.args.now at built r) (AttemptLeaves number Good NoReach allows successor same refuses seen Drawn t c.args.now at r)
+    c.in-Ok-Next.ensures.told by_ids
+    (λ old mid new run b. laws.attempt_then t allows c.requires.mannered c.args.now Drawn at successor same refuses seen built made.0 limit c.in-Ok-Next.ensures.seen old mid new run r b)
+
+pub returns-in-Ok-Same-clause-told : goal.returns-in-Ok-Same-clause-told
+returns-in-Ok-Same-clause-told g c =
+    let t = c.args.table.now in
+    let allows = g.M.Manners.allows (g.S.Store.manners c.args.store.now) in
+    let number = number_in t in
+    let Good = Narrow IsTableOf t in
+    let at = c.args.at in
+    let p0 = g.S.Store.past c.args.store.now in
+    let successor = g.X.Change.successor c.args.change.now in
+    let same = g.X.Change.same c.args.change.now in
+    let refuses = g.X.Change.refuses c.args.change.now in
+    let KO = Stands (OpenStage number at.place) in
+    let seen = g.X.Change.seen c.args.change.now c.attempt.new.self in
+    let p1 = g.S.Store.past c.attempt.new.store in
+    let Drawn = Gives (g.I.Ids.given c.args.ids.now) (g.I.Ids.given c.attempt.new.ids) in
+    let limit = c.has_version_limit.ensures.0 (grind (arith, c.if-not-has_version_limit.false)) in
+    let made : MakesOf successor same (view at.meta) Unchanged = subst (λ (b : Built). MakesOf successor same (view at.meta) b) c.in-Ok-Same.field-0-is c.in-Ok-Same.ensures.built in
+    since_turned p0 p1 (laws.Idle_ t allows c.requires.mannered c.args.now Drawn at KO) (AttemptLeaves number Good NoReach allows successor same refuses seen Drawn t c.args.now at (Ok (Same at.version)))
+    c.in-Ok-Same.ensures.told
+    (λ old new run. laws.same_by t allows c.requires.mannered c.args.now Drawn at successor same refuses seen old new limit made c.in-Ok-Same.ensures.seen run)
+
+pub returns-in-Err-clause-told : goal.returns-in-Err-clause-told
+returns-in-Err-clause-told g c =
+    let t = c.args.table.now in
+    let allows = g.M.Manners.allows (g.S.Store.manners c.args.store.now) in
+    let number = number_in t in
+    let Good = Narrow IsTableOf t in
+    let at = c.args.at in
+    let p0 = g.S.Store.past c.args.store.now in
+    let successor = g.X.Change.successor c.args.change.now in
+    let same = g.X.Change.same c.args.change.now in
+    let refuses = g.X.Change.refuses c.args.change.now in
+    let KO = Stands (OpenStage number at.place) in
+    let seen = g.X.Change.seen c.args.change.now c.attempt.new.self in
+    let p1 = g.S.Store.past c.attempt.new.store in
+    let Drawn = Gives (g.I.Ids.given c.args.ids.now) (g.I.Ids.given c.attempt.new.ids) in
+    let limit = c.has_version_limit.ensures.0 (grind (arith, c.if-not-has_version_limit.false)) in
+    let e = c.in-Err.e in
+    since_turned p0 p1 (laws.Idle_ t allows c.requires.mannered c.args.now Drawn at KO) (AttemptLeaves number Good NoReach allows successor same refuses seen Drawn t c.args.now at (Err (Attempt e)))
+    c.in-Err.ensures.told
+    (λ old new run. laws.refused_by t allows c.requires.mannered c.args.now Drawn at successor same refuses seen e old new limit c.in-Err.ensures.refused run)

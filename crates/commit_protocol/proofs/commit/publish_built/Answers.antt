@@ -1,0 +1,82 @@
+use Rattle.std.proofs.Common.{◌≡◌, ◌+◌, ℕ, List, Ok, Err, sym, ap, ◌∙◌, subst}
+use Rattle.ice_store.specs.Places.{Parts}
+use Rattle.ice_store.specs.Given.{Gives}
+use Rattle.ice_store.specs.Since.{Since}
+use Rattle.ice_store.proofs.SinceLaws.{since_start, since_turned}
+use Rattle.serde_json.specs.View.{view}
+use Rattle.table_history.specs.Versions.{number_in}
+use Rattle.table_publish.specs.Stages.{Narrow, NoReach, At as Stands}
+use Rattle.table_publish.specs.Leaves.{PublishLeaves}
+use Rattle.version_open.specs.Opening.{OpenStage}
+use Rattle.commit_protocol.specs.Metadata.{IsTableOf}
+use Rattle.commit_protocol.specs.Written.{commit_error_by, CommitLeft}
+use Rattle.commit_protocol.specs.declared.errors.CommitErr.{CommitErr}
+use Rattle.commit_protocol.specs.declared.errors.CommitErr.TheVariants.{Attempt}
+use Rattle.commit_protocol.specs.declared.errors.Committed.TheVariants.{Published}
+use Rattle.commit_protocol.proofs.CommitLaws as laws
+use Rattle.commit_protocol.proofs.commit.publish_built.Goals as goal
+
+pub returns-in-Err-clause-told : goal.returns-in-Err-clause-told
+returns-in-Err-clause-told g c =
+    let t = c.args.table.now in
+    let allows = g.M.Manners.allows (g.S.Store.manners c.args.store.now) in
+    let Drawn = Gives (g.I.Ids.given c.args.ids.now) (g.I.Ids.given c.next-id.new.self) in
+    let p0 = g.S.Store.past c.args.store.now in
+    let built = view c.args.meta in
+    let e = c.in-Err.e in
+    since_start p0 (Stands (OpenStage (number_in t) c.args.at.place)) (laws.BuiltLeaves t allows c.requires.mannered c.args.now Drawn c.args.at built (Err (Attempt e))) c.requires.start
+    (λ old here. laws.unwritten_err t allows c.requires.mannered c.args.now Drawn c.args.at built c.next-id.result c.next-id.ensures c.requires.limit e old old c.in-Err.ensures.err (laws.starts t allows c.requires.mannered c.args.now Drawn c.args.at (Stands (OpenStage (number_in t) c.args.at.place)) old here))
+
+pub returns-in-Ok-publish_version-clause-told : goal.returns-in-Ok-publish_version-clause-told
+returns-in-Ok-publish_version-clause-told g c =
+    let t = c.args.table.now in
+    let allows = g.M.Manners.allows (g.S.Store.manners c.args.store.now) in
+    let Drawn = Gives (g.I.Ids.given c.args.ids.now) (g.I.Ids.given c.next-id.new.self) in
+    let p0 = g.S.Store.past c.args.store.now in
+    let built = view c.args.meta in
+    let w = c.in-Ok.written in
+    let is = c.in-Ok.ensures.ok in
+    let p1 = g.S.Store.past c.publish.new.store in
+    let r = Ok c.in-Ok-publish_version.field-0 in
+    let bytes : c.deref.result.now ≡ w.bytes = c.deref.ensures.value ∙ c.inner.ensures in
+    let told = subst (λ (x : List ℕ). Since p0 p1 (PublishLeaves (number_in w.route.table) (Narrow IsTableOf w.route.table) NoReach allows w.route.base w.route.text w.route.target w.route.draft x r)) bytes c.in-Ok-publish_version.ensures.told in
+    since_turned p0 p1 (PublishLeaves (number_in t) (Narrow IsTableOf t) NoReach allows c.args.at.place c.args.at.text w.route.target w.route.draft w.bytes r) (laws.BuiltLeaves t allows c.requires.mannered c.args.now Drawn c.args.at built (Ok (Published (c.args.at.version + 1))))
+    (laws.moved_in t allows c.requires.mannered c.args.now Drawn c.args.at built c.next-id.result c.next-id.ensures c.requires.limit w is p0 p1 r told)
+    (λ old new left. laws.published_ok t allows c.requires.mannered c.args.now Drawn c.args.at built c.next-id.result c.next-id.ensures c.requires.limit w is old new left)
+
+pub returns-clause-told : goal.returns-clause-told
+returns-clause-told g c =
+    let t = c.args.table.now in
+    let allows = g.M.Manners.allows (g.S.Store.manners c.args.store.now) in
+    let Drawn = Gives (g.I.Ids.given c.args.ids.now) (g.I.Ids.given c.next-id.new.self) in
+    let p0 = g.S.Store.past c.args.store.now in
+    let built = view c.args.meta in
+    let w = c.in-Ok.written in
+    let is = c.in-Ok.ensures.ok in
+    let p1 = g.S.Store.past c.publish.new.store in
+    let e = c.in-Err-publish_version.e in
+    let r = Err e in
+    let v = c.args.at.version + 1 in
+    let bytes : c.deref.result.now ≡ w.bytes = c.deref.ensures.value ∙ c.inner.ensures in
+    let told = subst (λ (x : List ℕ). Since p0 p1 (PublishLeaves (number_in w.route.table) (Narrow IsTableOf w.route.table) NoReach allows w.route.base w.route.text w.route.target w.route.draft x r)) bytes c.in-Err-publish_version.ensures.told in
+    let Leaves = laws.BuiltLeaves t allows c.requires.mannered c.args.now Drawn c.args.at built in
+    let error : c.commit_error.result ≡ commit_error_by e w.route.draft t v = c.commit_error.ensures ∙ ap (λ (x : Parts). commit_error_by e w.route.draft x v) is.table_is in
+    let base = since_turned p0 p1 (PublishLeaves (number_in t) (Narrow IsTableOf t) NoReach allows c.args.at.place c.args.at.text w.route.target w.route.draft w.bytes r) (Leaves (Err (commit_error_by e w.route.draft t v)))
+    (laws.moved_in t allows c.requires.mannered c.args.now Drawn c.args.at built c.next-id.result c.next-id.ensures c.requires.limit w is p0 p1 r told)
+    (λ old new left. laws.published_err t allows c.requires.mannered c.args.now Drawn c.args.at built c.next-id.result c.next-id.ensures c.requires.limit w is old new e left) in
+    subst (λ (x : CommitErr). Since p0 p1 (Leaves (Err x))) (sym error) base
+
+pub returns-clause-left : goal.returns-clause-left
+returns-clause-left g c =
+    let t = c.args.table.now in
+    let allows = g.M.Manners.allows (g.S.Store.manners c.args.store.now) in
+    let Drawn = Gives (g.I.Ids.given c.args.ids.now) (g.I.Ids.given c.next-id.new.self) in
+    let w = c.in-Ok.written in
+    let is = c.in-Ok.ensures.ok in
+    let e = c.in-Err-publish_version.e in
+    let v = c.args.at.version + 1 in
+    let error : c.commit_error.result ≡ commit_error_by e w.route.draft t v = c.commit_error.ensures ∙ ap (λ (x : Parts). commit_error_by e w.route.draft x v) is.table_is in
+    let before = c.args.log.now.left.items in
+    let after = c.publish.new.log.left.items in
+    subst (λ (x : CommitErr). CommitLeft Drawn t (Err x) before after) (sym error)
+    (laws.left_err t allows c.requires.mannered c.args.now Drawn c.args.at (view c.args.meta) c.next-id.result c.next-id.ensures c.requires.limit w is e before after c.in-Err-publish_version.ensures.left)

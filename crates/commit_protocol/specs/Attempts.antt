@@ -1,0 +1,161 @@
+-- What one attempt of a commit leaves, by its answer.
+use Rattle.std.specs.Prelude.{◌≡◌, ◌⊎◌, ℕ, ◌+◌, ◌<◌, ◌≤◌, List, [], ◌∷◌, ◌++◌, length, codes, Result, Ok, Err}
+use Rattle.serde_json.specs.Data.{Data}
+use Rattle.serde_json.specs.View.{view}
+use Rattle.ice_store.specs.Places.{Parts}
+use Rattle.ice_store.specs.declared.history.Past.{Past}
+use Rattle.ice_store.specs.declared.history.Step.{Step}
+use Rattle.ice_store.specs.declared.faults.What.TheVariants.{FileBytes}
+use Rattle.ice_store.specs.declared.faults.Where.TheVariants.{Path}
+use Rattle.ice_store.specs.declared.faults.ReadErr.{ReadErr}
+use Rattle.ice_store.specs.declared.faults.ReadErr.TheVariants.{Missing, Damaged, Unsupported, StoreFault, Memory}
+use Rattle.table_history.specs.Tables.{GoodBy, ReachBy}
+use Rattle.table_history.specs.Runs.{Ran}
+use Rattle.table_metadata.specs.Spelling.{Spells}
+use Rattle.table_metadata.specs.View.{location_of}
+use Rattle.table_metadata.specs.Edits.{next_version, HasVersionLimit}
+use Rattle.table_publish.specs.Stages.{Aim, Exactly, Anything}
+use Rattle.version_open.specs.Opening.{file_limit}
+use Rattle.version_names.specs.Names.{version_text_of, version_name, draft_name}
+use Rattle.table_history.specs.Versions.{folder}
+use Rattle.serde_json.specs.Written.{compact_text}
+use Rattle.table_publish.specs.Leaves.{PublishLeaves}
+use Rattle.table_publish.specs.declared.steps.Call.{Call}
+use Rattle.table_publish.specs.declared.steps.Call.TheVariants.{OnFile, OnNames}
+use Rattle.table_publish.specs.declared.publish.PublishErr.{PublishErr}
+use Rattle.table_publish.specs.declared.publish.PublishErr.TheVariants as PublishErr_
+use Rattle.table_publish.specs.declared.publish.PublishErr.TheVariants.{NameTaken, Fault, NoMemory}
+use Rattle.commit_protocol.specs.Metadata.{IsAt, OpenErrLeaves}
+use Rattle.commit_protocol.specs.declared.opening.At.{At}
+use Rattle.commit_protocol.specs.declared.change.Built.{Built}
+use Rattle.commit_protocol.specs.declared.change.Built.TheVariants.{Same as Unchanged, Next}
+use Rattle.commit_protocol.specs.declared.errors.AttemptErr.{AttemptErr}
+use Rattle.commit_protocol.specs.declared.errors.AttemptErr.TheVariants as attempts
+use Rattle.commit_protocol.specs.declared.errors.CommitErr.{CommitErr}
+use Rattle.commit_protocol.specs.declared.errors.CommitErr.TheVariants.{Open, Attempt, Contended, CommitUnknown}
+use Rattle.commit_protocol.specs.declared.errors.Committed.{Committed}
+use Rattle.commit_protocol.specs.declared.errors.Committed.TheVariants.{Same, Published}
+
+-- metadata built by a change stays the table's, and its log limit stays readable
+pub record StaysTable (tree built : Data) : Type 0 where
+  pub location : location_of built ≡ location_of tree
+  pub limit : HasVersionLimit tree → HasVersionLimit built
+
+-- what a change makes of a base
+abbrev pub MakesOf : (Data → Data → Type 0) → (Data → Type 0) → Data → Built → Type 0
+MakesOf successor same tree Unchanged = same tree
+MakesOf successor same tree (Next meta) = successor tree (view meta) × StaysTable tree (view meta)
+
+-- the metadata of the next version: the base's, changed, with the base in its metadata log
+pub record IsNextOf (successor : Data → Data → Type 0) (version now : ℕ) (tree next : Data) : Type 0 where
+  pub built : Data
+  pub changed : successor tree built
+  pub is : next ≡ next_version (version_text_of (location_of tree) version) now built
+
+-- the bytes are its written form, and spell it
+pub record Writes (successor : Data → Data → Type 0) (version now : ℕ) (tree : Data) (bytes : List ℕ) : Type 0 where
+  pub next : Data
+  pub is : IsNextOf successor version now tree next
+  pub written : bytes ≡ compact_text next
+  pub spells : Spells bytes next
+
+-- a new metadata file that a commit draws up: its name comes from a drawn identifier
+pub record Drafted (Drawn : ℕ → Type 0) (successor : Data → Data → Type 0) (table : Parts) (number : Parts → ℕ) (now : ℕ) (at : At) : Type 0 where
+  pub id : ℕ
+  pub drawn : Drawn id
+  pub draft : Parts
+  pub draft_is : draft ≡ table ++ folder ∷ draft_name id ∷ []
+  pub target : Parts
+  pub target_is : target ≡ table ++ folder ∷ version_name (at.version + 1) ∷ []
+  pub aim : Aim number draft at.place target
+  pub bytes : List ℕ
+  pub writes : Writes successor at.version now (view at.meta) bytes
+  pub short : length bytes ≤ file_limit
+
+-- its written form is longer than a metadata file may be
+pub record IsTooLong (Drawn : ℕ → Type 0) (successor : Data → Data → Type 0) (table : Parts) (now : ℕ) (at : At) (place : Parts) : Type 0 where
+  pub id : ℕ
+  pub drawn : Drawn id
+  pub place_is : place ≡ table ++ folder ∷ draft_name id ∷ []
+  pub next : Data
+  pub is : IsNextOf successor at.version now (view at.meta) next
+  pub long : file_limit < length (compact_text next)
+
+-- where the limit of the metadata log stands
+abbrev pub limit_path : List ℕ
+limit_path = codes "properties.write.metadata.previous-versions-max"
+
+-- the answer where that limit can't be read, or there was no memory for the answer
+abbrev pub TellsLimit : Parts → CommitErr → Type 0
+TellsLimit place e = (e ≡ Attempt (attempts.Read (Damaged place (Path limit_path)))) ⊎ (e ≡ Attempt (attempts.Read Memory))
+
+abbrev pub faulty_place : Call → Parts → Parts → Parts
+faulty_place OnFile draft table = draft
+faulty_place OnNames draft table = table
+
+module _ (number : Parts → ℕ) (Good : GoodBy) (Reached : ReachBy) (allows : Past → Step → Type 0) where
+  abbrev pub Idle : Past → Past → Type 0
+  Idle = Ran number Good Reached allows (Exactly []) Anything
+
+  -- the meanings of a change, and what it worked with
+  module _ (successor : Data → Data → Type 0) (same : Data → Type 0) (refuses : Data → AttemptErr → Type 0) (seen : Data → Type 0) (Drawn : ℕ → Type 0) (table : Parts) (now : ℕ) where
+    -- a file was drawn up, and its publish ended so
+    pub record PublishedBy (at : At) (result : Result (Unit {0}) PublishErr) (old new : Past) : Type 0 where
+      pub drafted : Drafted Drawn successor table number now at
+      pub left : PublishLeaves number Good Reached allows at.place at.text drafted.target drafted.draft drafted.bytes result old new
+
+    pub record FaultBy (at : At) (place : Parts) (old new : Past) : Type 0 where
+      pub call : Call
+      pub drafted : Drafted Drawn successor table number now at
+      pub place_is : place ≡ faulty_place call drafted.draft table
+      pub left : PublishLeaves number Good Reached allows at.place at.text drafted.target drafted.draft drafted.bytes (Err (Fault call)) old new
+
+    pub record TakenBy (at : At) (place : Parts) (old new : Past) : Type 0 where
+      pub limit : HasVersionLimit (view at.meta)
+      pub drafted : Drafted Drawn successor table number now at
+      pub place_is : place ≡ drafted.draft
+      pub left : PublishLeaves number Good Reached allows at.place at.text drafted.target drafted.draft drafted.bytes (Err NameTaken) old new
+
+    -- the change refused the base so
+    pub record RefusedBy (at : At) (e : AttemptErr) (old new : Past) : Type 0 where
+      pub limit : HasVersionLimit (view at.meta)
+      pub refuses_it : refuses (view at.meta) e
+      pub idle : Idle old new
+
+    -- what an attempt's error says
+    abbrev pub ReadErrBy : At → ReadErr → Past → Past → Type 0
+    ReadErrBy at (Missing place) old new = RefusedBy at (attempts.Read (Missing place)) old new
+    ReadErrBy at (Damaged place where_) old new = RefusedBy at (attempts.Read (Damaged place where_)) old new ⊎ ((place ≡ at.place) × (where_ ≡ Path limit_path) × (HasVersionLimit (view at.meta) → ⊥) × Idle old new)
+    ReadErrBy at (Unsupported place what) old new = RefusedBy at (attempts.Read (Unsupported place what)) old new ⊎ ((what ≡ FileBytes) × HasVersionLimit (view at.meta) × IsTooLong Drawn successor table now at place × Idle old new)
+    ReadErrBy at (StoreFault place) old new = RefusedBy at (attempts.Read (StoreFault place)) old new ⊎ FaultBy at place old new
+    ReadErrBy at Memory old new = Idle old new ⊎ PublishedBy at (Err NoMemory) old new
+
+    abbrev pub AttemptErrBy : At → AttemptErr → Past → Past → Type 0
+    AttemptErrBy at (attempts.Refused refusal) old new = RefusedBy at (attempts.Refused refusal) old new
+    AttemptErrBy at (attempts.Conflict place other) old new = RefusedBy at (attempts.Conflict place other) old new
+    AttemptErrBy at (attempts.NameTaken place) old new = RefusedBy at (attempts.NameTaken place) old new ⊎ TakenBy at place old new
+    AttemptErrBy at (attempts.Read e) old new = ReadErrBy at e old new
+
+    -- what an attempt on an opened table leaves, by its answer
+    abbrev pub AttemptLeaves : At → Result Committed CommitErr → Past → Past → Type 0
+    AttemptLeaves at (Ok (Same version)) old new = (version ≡ at.version) × HasVersionLimit (view at.meta) × same (view at.meta) × seen (view at.meta) × Idle old new
+    AttemptLeaves at (Ok (Published version)) old new = (version ≡ at.version + 1) × HasVersionLimit (view at.meta) × seen (view at.meta) × PublishedBy at (Ok tt) old new
+    AttemptLeaves at (Err (Open e)) old new = ⊥
+    AttemptLeaves at (Err (Attempt e)) old new = AttemptErrBy at e old new
+    AttemptLeaves at (Err (Contended version)) old new = (version ≡ at.version + 1) × HasVersionLimit (view at.meta) × PublishedBy at (Err PublishErr_.Contended) old new
+    AttemptLeaves at (Err (CommitUnknown version)) old new = (version ≡ at.version + 1) × HasVersionLimit (view at.meta) × PublishedBy at (Err PublishErr_.Unknown) old new
+
+    -- the table was opened, and then an attempt on it ended so
+    pub record Attempted (result : Result Committed CommitErr) (old new : Past) : Type 0 where
+      pub at : At
+      pub mid : Past
+      pub opened : IsAt number Good Reached allows table at old mid
+      pub then : AttemptLeaves at result mid new
+
+    -- what a commit of one attempt leaves, by its answer
+    abbrev pub CommitLeaves : Result Committed CommitErr → Past → Past → Type 0
+    CommitLeaves (Ok c) = Attempted (Ok c)
+    CommitLeaves (Err (Open e)) = OpenErrLeaves number Good Reached allows table e
+    CommitLeaves (Err (Attempt e)) = Attempted (Err (Attempt e))
+    CommitLeaves (Err (Contended version)) = Attempted (Err (Contended version))
+    CommitLeaves (Err (CommitUnknown version)) = Attempted (Err (CommitUnknown version))

@@ -1,0 +1,5 @@
+pub mod Metadata
+pub mod Causes
+pub mod Attempts
+pub mod Written
+pub mod Verdicts

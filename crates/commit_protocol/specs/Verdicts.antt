@@ -1,0 +1,245 @@
+-- What an opening and a commit answer where nobody else acts: each answer's exact cause in the files at the entry.
+use Rattle.std.specs.Prelude.{◌≡◌, ◌⊎◌, ℕ, ◌+◌, ◌<◌, ◌≤◌, true, false, List, length, Result, Ok, Err}
+use Rattle.serde_json.specs.Data.{Data}
+use Rattle.serde_json.specs.View.{view}
+use Rattle.serde_json.specs.Written.{compact_text}
+use Rattle.ice_store.specs.Places.{Parts}
+use Rattle.ice_store.specs.Files.{is_named}
+use Rattle.ice_store.specs.declared.history.Held.{Held}
+use Rattle.ice_store.specs.declared.history.Past.{Past}
+use Rattle.ice_store.specs.declared.history.Step.{Step}
+use Rattle.ice_store.specs.declared.faults.What.{What}
+use Rattle.ice_store.specs.declared.faults.What.TheVariants.{Codec, FormatVersion, Transform, SchemaSize, BlockBytes, ItemCount, FileBytes, GroupBytes, NoManifestList, VersionNumber, Sequence}
+use Rattle.ice_store.specs.declared.faults.Where.TheVariants.{Path}
+use Rattle.ice_store.specs.declared.faults.ReadErr.{ReadErr}
+use Rattle.ice_store.specs.declared.faults.ReadErr.TheVariants.{Missing, Damaged, Unsupported, StoreFault, Memory}
+use Rattle.table_history.specs.Tables.{version}
+use Rattle.table_history.specs.Versions.{number_in}
+use Rattle.table_metadata.specs.Edits.{HasVersionLimit}
+use Rattle.version_open.specs.Latest.{IsBaseNumber}
+use Rattle.version_open.specs.Opening.{FileIs, IsBeyond, file_limit}
+use Rattle.version_open.specs.declared.types.OpenErr.{OpenErr}
+use Rattle.version_open.specs.declared.types.OpenErr.TheVariants.{NoTable, LocationDiffers, Read}
+use Rattle.commit_protocol.specs.Metadata.{IsMetadata, IsElsewhere, IsDamaged, IsUnsupported}
+use Rattle.commit_protocol.specs.Attempts.{IsNextOf, limit_path}
+use Rattle.commit_protocol.specs.Written.{draft_at}
+use Rattle.commit_protocol.specs.declared.opening.At.{At}
+use Rattle.commit_protocol.specs.declared.errors.Refusal.{Refusal}
+use Rattle.commit_protocol.specs.declared.errors.AttemptErr.{AttemptErr}
+use Rattle.commit_protocol.specs.declared.errors.AttemptErr.TheVariants as attempts
+use Rattle.commit_protocol.specs.declared.errors.CommitErr.{CommitErr}
+use Rattle.commit_protocol.specs.declared.errors.CommitErr.TheVariants.{Open, Attempt, Contended, CommitUnknown}
+use Rattle.commit_protocol.specs.declared.errors.Committed.{Committed}
+use Rattle.commit_protocol.specs.declared.errors.Committed.TheVariants.{Same, Published}
+
+-- nobody else acts
+abbrev pub IsNobody : (Past → Step → Type 0) → Type 0
+IsNobody allows = (past : Past) (step : Step) → allows past step → ⊥
+
+-- An opening.
+
+-- the last version's file: its place, its number, which is within the limit, and its bytes
+pub record IsLastFile (table : Parts) (files : List Held) (place : Parts) (last : ℕ) (bytes : List ℕ) : Type 0 where
+  pub is_last : version (number_in table) files ≡ last
+  pub numbers : IsBaseNumber (number_in table) place last
+  pub file : FileIs place bytes files
+
+-- the last version's file, which isn't too long, and of whose place and bytes this holds
+pub record HasLast (table : Parts) (files : List Held) (P : Parts → List ℕ → Type 0) : Type 0 where
+  pub place : Parts
+  pub last : ℕ
+  pub bytes : List ℕ
+  pub file : IsLastFile table files place last bytes
+  pub short : length bytes ≤ file_limit
+  pub holds : P place bytes
+
+-- the last version's file is longer than a metadata file may be
+pub record IsOverlong (table : Parts) (files : List Held) (place : Parts) : Type 0 where
+  pub last : ℕ
+  pub bytes : List ℕ
+  pub file : IsLastFile table files place last bytes
+  pub long : file_limit < length bytes
+
+-- the table of these files: its last version's file, and the metadata that its bytes spell
+pub record IsTable (table : Parts) (files : List Held) (place : Parts) (last : ℕ) (bytes : List ℕ) (tree : Data) : Type 0 where
+  pub file : IsLastFile table files place last bytes
+  pub short : length bytes ≤ file_limit
+  pub metadata : IsMetadata table bytes tree
+
+-- a limit on version numbers or on files is passed
+abbrev pub LimitVerdict : Parts → List Held → Parts → What → Type 0
+LimitVerdict table files place VersionNumber = IsBeyond (number_in table) place files
+LimitVerdict table files place FileBytes = IsOverlong table files place
+LimitVerdict table files place Codec = ⊥
+LimitVerdict table files place FormatVersion = ⊥
+LimitVerdict table files place Transform = ⊥
+LimitVerdict table files place SchemaSize = ⊥
+LimitVerdict table files place BlockBytes = ⊥
+LimitVerdict table files place ItemCount = ⊥
+LimitVerdict table files place GroupBytes = ⊥
+LimitVerdict table files place NoManifestList = ⊥
+LimitVerdict table files place Sequence = ⊥
+
+-- the cause of an opening's answer in these files; that of a store fault is the count of faults, and want of memory is free
+abbrev pub OpenVerdict : Parts → List Held → Result At OpenErr → Type 0
+OpenVerdict table files (Ok at) = IsTable table files at.place at.version at.text (view at.meta)
+OpenVerdict table files (Err (NoTable place)) = (place ≡ table) × (version (number_in table) files ≡ 0)
+OpenVerdict table files (Err (LocationDiffers place location)) = (place ≡ table) × HasLast table files (λ p bytes. IsElsewhere table bytes location)
+OpenVerdict table files (Err (Read (Missing place))) = ⊥
+OpenVerdict table files (Err (Read (Damaged place at))) = HasLast table files (λ p bytes. (place ≡ p) × IsDamaged bytes at)
+OpenVerdict table files (Err (Read (Unsupported place what))) = LimitVerdict table files place what ⊎ HasLast table files (λ p bytes. (place ≡ p) × IsUnsupported bytes what)
+OpenVerdict table files (Err (Read (StoreFault place))) = Unit {0}
+OpenVerdict table files (Err (Read Memory)) = Unit {0}
+
+-- A commit.
+
+-- the base of a commit: the table, whose log limit can be read, and of whose version and metadata this holds
+pub record OnBase (table : Parts) (files : List Held) (P : ℕ → Data → Type 0) : Type 0 where
+  pub place : Parts
+  pub last : ℕ
+  pub bytes : List ℕ
+  pub tree : Data
+  pub is : IsTable table files place last bytes tree
+  pub limit : HasVersionLimit tree
+  pub holds : P last tree
+
+-- the table stands at this place, and its log limit can't be read
+pub record IsUnlimited (table : Parts) (files : List Held) (place : Parts) : Type 0 where
+  pub last : ℕ
+  pub bytes : List ℕ
+  pub tree : Data
+  pub is : IsTable table files place last bytes tree
+  pub unlimited : HasVersionLimit tree → ⊥
+
+abbrev pub IsShort : ℕ → Type 0
+IsShort n = n ≤ file_limit
+
+abbrev pub IsLongText : ℕ → Type 0
+IsLongText n = file_limit < n
+
+-- the meanings of a change, and what the commit works with
+module _ (successor : Data → Data → Type 0) (same : Data → Type 0) (refuses : Data → AttemptErr → Type 0) (Drawn : ℕ → Type 0) (table : Parts) (now : ℕ) where
+  -- the change builds a next version; its new file's name comes from a drawn identifier, and this holds of the length of its written form
+  pub record DrawsUp (Long : ℕ → Type 0) (last : ℕ) (tree : Data) (draft : Parts) : Type 0 where
+    pub id : ℕ
+    pub drawn : Drawn id
+    pub place : draft ≡ draft_at table id
+    pub next : Data
+    pub is : IsNextOf successor last now tree next
+    pub length_is : Long (length (compact_text next))
+
+  -- the new file's name is free
+  pub record IsFree (files : List Held) (last : ℕ) (tree : Data) : Type 0 where
+    pub draft : Parts
+    pub drawn_up : DrawsUp IsShort last tree draft
+    pub free : is_named files draft ≡ false
+
+  -- the cause of a commit's answer in these files; that of a store fault and of an unknown commit is the count of faults, and want of memory is free
+  abbrev pub CommitVerdict : List Held → Result Committed CommitErr → Type 0
+  CommitVerdict files (Ok (Same v)) = OnBase table files (λ last tree. (v ≡ last) × same tree)
+  CommitVerdict files (Ok (Published v)) = OnBase table files (λ last tree. (v ≡ last + 1) × IsFree files last tree)
+  CommitVerdict files (Err (Open e)) = OpenVerdict table files (Err e)
+  CommitVerdict files (Err (Attempt (attempts.Refused refusal))) = OnBase table files (λ last tree. refuses tree (attempts.Refused refusal))
+  CommitVerdict files (Err (Attempt (attempts.Conflict place other))) = OnBase table files (λ last tree. refuses tree (attempts.Conflict place other))
+  CommitVerdict files (Err (Attempt (attempts.NameTaken place))) = OnBase table files (λ last tree. refuses tree (attempts.NameTaken place) ⊎ (DrawsUp IsShort last tree place × (is_named files place ≡ true)))
+  CommitVerdict files (Err (Attempt (attempts.Read (Missing place)))) = OnBase table files (λ last tree. refuses tree (attempts.Read (Missing place)))
+  CommitVerdict files (Err (Attempt (attempts.Read (Damaged place at)))) = OnBase table files (λ last tree. refuses tree (attempts.Read (Damaged place at))) ⊎ ((at ≡ Path limit_path) × IsUnlimited table files place)
+  CommitVerdict files (Err (Attempt (attempts.Read (Unsupported place what)))) = OnBase table files (λ last tree. refuses tree (attempts.Read (Unsupported place what)) ⊎ ((what ≡ FileBytes) × DrawsUp IsLongText last tree place))
+  CommitVerdict files (Err (Attempt (attempts.Read (StoreFault place)))) = Unit {0}
+  CommitVerdict files (Err (Attempt (attempts.Read Memory))) = Unit {0}
+  CommitVerdict files (Err (Contended v)) = ⊥
+  CommitVerdict files (Err (CommitUnknown v)) = Unit {0}
+
+-- no event is added, but by a publish and by what may have been one
+abbrev pub IsIdle : Result Committed CommitErr → Past → Past → Type 0
+IsIdle (Ok (Same v)) old new = new ≡ old
+IsIdle (Ok (Published v)) old new = Unit {0}
+IsIdle (Err (Open e)) old new = new ≡ old
+IsIdle (Err (Attempt (attempts.Refused refusal))) old new = new ≡ old
+IsIdle (Err (Attempt (attempts.Conflict place other))) old new = new ≡ old
+IsIdle (Err (Attempt (attempts.NameTaken place))) old new = new ≡ old
+IsIdle (Err (Attempt (attempts.Read (Missing place)))) old new = new ≡ old
+IsIdle (Err (Attempt (attempts.Read (Damaged place at)))) old new = new ≡ old
+IsIdle (Err (Attempt (attempts.Read (Unsupported place what)))) old new = new ≡ old
+IsIdle (Err (Attempt (attempts.Read (StoreFault place)))) old new = Unit {0}
+IsIdle (Err (Attempt (attempts.Read Memory))) old new = Unit {0}
+IsIdle (Err (Contended v)) old new = Unit {0}
+IsIdle (Err (CommitUnknown v)) old new = Unit {0}
+
+-- Each verdict is the only one.
+
+-- an answer whose cause is a state, and no fault or want of memory
+abbrev pub IsReadTold : ReadErr → Type 0
+IsReadTold (Missing place) = Unit {0}
+IsReadTold (Damaged place at) = Unit {0}
+IsReadTold (Unsupported place what) = Unit {0}
+IsReadTold (StoreFault place) = ⊥
+IsReadTold Memory = ⊥
+
+abbrev pub IsOpeningTold : Result At OpenErr → Type 0
+IsOpeningTold (Ok at) = Unit {0}
+IsOpeningTold (Err (NoTable place)) = Unit {0}
+IsOpeningTold (Err (LocationDiffers place location)) = Unit {0}
+IsOpeningTold (Err (Read e)) = IsReadTold e
+
+abbrev pub IsTold : Result Committed CommitErr → Type 0
+IsTold (Ok c) = Unit {0}
+IsTold (Err (Open e)) = IsOpeningTold (Err e)
+IsTold (Err (Attempt (attempts.Refused refusal))) = Unit {0}
+IsTold (Err (Attempt (attempts.Conflict place other))) = Unit {0}
+IsTold (Err (Attempt (attempts.NameTaken place))) = Unit {0}
+IsTold (Err (Attempt (attempts.Read e))) = IsReadTold e
+IsTold (Err (Contended v)) = Unit {0}
+IsTold (Err (CommitUnknown v)) = ⊥
+
+-- what an opened table shows
+pub record Shown : Type 0 where
+  pub place : Parts
+  pub last : ℕ
+  pub bytes : List ℕ
+  pub tree : Data
+
+abbrev pub shown : Result At OpenErr → Result Shown OpenErr
+shown (Ok at) = Ok (record { place = at.place; last = at.version; bytes = at.text; tree = view at.meta })
+shown (Err e) = Err e
+
+-- two told verdicts of one opening show the same
+abbrev pub IsOneOpening : Parts → Type 0
+IsOneOpening table = (files : List Held) (r s : Result At OpenErr) → IsOpeningTold r → IsOpeningTold s → OpenVerdict table files r → OpenVerdict table files s → shown r ≡ shown s
+
+-- a refusal by what the table has, or want of memory
+abbrev pub IsPlain : AttemptErr → Type 0
+IsPlain (attempts.Refused refusal) = Unit {0}
+IsPlain (attempts.Conflict place other) = ⊥
+IsPlain (attempts.NameTaken place) = ⊥
+IsPlain (attempts.Read (Missing place)) = ⊥
+IsPlain (attempts.Read (Damaged place at)) = ⊥
+IsPlain (attempts.Read (Unsupported place what)) = ⊥
+IsPlain (attempts.Read (StoreFault place)) = ⊥
+IsPlain (attempts.Read Memory) = Unit {0}
+
+-- the meanings of a change exclude one another, and each gives one answer; it refuses by what the table has alone
+pub record IsDecided (successor : Data → Data → Type 0) (same : Data → Type 0) (refuses : Data → AttemptErr → Type 0) : Type 0 where
+  pub plain : (tree : Data) (e : AttemptErr) → refuses tree e → IsPlain e
+  pub one_refusal : (tree : Data) (r s : Refusal) → refuses tree (attempts.Refused r) → refuses tree (attempts.Refused s) → r ≡ s
+  pub one_successor : (tree a b : Data) → successor tree a → successor tree b → a ≡ b
+  pub built_or_same : (tree built : Data) → successor tree built → same tree → ⊥
+  pub built_or_refused : (tree built : Data) (r : Refusal) → successor tree built → refuses tree (attempts.Refused r) → ⊥
+  pub same_or_refused : (tree : Data) (r : Refusal) → same tree → refuses tree (attempts.Refused r) → ⊥
+
+-- at most one identifier was drawn
+abbrev pub IsOneDrawn : (ℕ → Type 0) → Type 0
+IsOneDrawn Drawn = (a b : ℕ) → Drawn a → Drawn b → a ≡ b
+
+-- two told verdicts of one commit are one
+abbrev pub IsOneCommit : Parts → ℕ → (Data → Data → Type 0) → (Data → Type 0) → (Data → AttemptErr → Type 0) → (ℕ → Type 0) → Type 0
+IsOneCommit table now successor same refuses Drawn = (files : List Held) (r s : Result Committed CommitErr) → IsTold r → IsTold s
+    → CommitVerdict successor same refuses Drawn table now files r → CommitVerdict successor same refuses Drawn table now files s → r ≡ s
+
+-- Where such an answer's cause stands in these files, it is the answer given, but for want of memory and faults.
+
+abbrev pub IsExactOpening : Parts → Result At OpenErr → List Held → Type 0
+IsExactOpening table result files = (r : Result At OpenErr) → IsOpeningTold r → OpenVerdict table files r → IsOpeningTold result → shown result ≡ shown r
+
+abbrev pub IsExactCommit : (Data → Data → Type 0) → (Data → Type 0) → (Data → AttemptErr → Type 0) → (ℕ → Type 0) → Parts → ℕ → Result Committed CommitErr → List Held → Type 0
+IsExactCommit successor same refuses Drawn table now result files = (r : Result Committed CommitErr) → IsTold r → CommitVerdict successor same refuses Drawn table now files r → IsTold result → result ≡ r

@@ -1,0 +1,107 @@
+-- A new metadata file as it is drawn up, and what a commit tells besides.
+use Rattle.std.specs.Prelude.{◌≡◌, ◌⊎◌, ℕ, ◌+◌, ◌<◌, ◌≤◌, List, [], ◌∷◌, ◌++◌, length, Result, Ok, Err}
+use Rattle.serde_json.specs.Data.{Data}
+use Rattle.serde_json.specs.View.{view}
+use Rattle.serde_json.specs.Written.{compact_text}
+use Rattle.ice_store.specs.Places.{Parts}
+use Rattle.ice_store.specs.declared.history.Past.{Past}
+use Rattle.ice_store.specs.declared.history.Step.{Step}
+use Rattle.ice_store.specs.declared.faults.What.TheVariants.{FileBytes}
+use Rattle.ice_store.specs.declared.faults.ReadErr.TheVariants.{Missing, Damaged, Unsupported, StoreFault, Memory}
+use Rattle.table_history.specs.Tables.{GoodBy, ReachBy}
+use Rattle.table_history.specs.Versions.{number_in, folder}
+use Rattle.table_metadata.specs.View.{location_of}
+use Rattle.table_metadata.specs.Edits.{next_version}
+use Rattle.table_publish.specs.Stages.{Aim}
+use Rattle.table_publish.specs.declared.steps.Call.TheVariants.{OnFile, OnNames}
+use Rattle.table_publish.specs.declared.publish.PublishErr.{PublishErr}
+use Rattle.table_publish.specs.declared.publish.PublishErr.TheVariants as publishes
+use Rattle.version_names.specs.Names.{version_text_of, version_name, draft_name}
+use Rattle.version_open.specs.Opening.{file_limit}
+use Rattle.commit_protocol.specs.Metadata.{IsMetadata}
+use Rattle.commit_protocol.specs.Attempts.{AttemptLeaves}
+use Rattle.commit_protocol.specs.declared.opening.At.{At}
+use Rattle.commit_protocol.specs.declared.commit.Written.{Written}
+use Rattle.commit_protocol.specs.declared.errors.AttemptErr.{AttemptErr}
+use Rattle.commit_protocol.specs.declared.errors.AttemptErr.TheVariants as attempts
+use Rattle.commit_protocol.specs.declared.errors.CommitErr.{CommitErr}
+use Rattle.commit_protocol.specs.declared.errors.CommitErr.TheVariants.{Open, Attempt, Contended, CommitUnknown}
+use Rattle.commit_protocol.specs.declared.errors.Committed.{Committed}
+use Rattle.commit_protocol.specs.declared.errors.Committed.TheVariants.{Same, Published}
+
+-- the metadata of the version after `at`, built as `built`
+abbrev pub next_tree : At → Data → ℕ → Data
+next_tree at built now = next_version (version_text_of (location_of (view at.meta)) at.version) now built
+
+pub record IsWritten (table : Parts) (at : At) (built : Data) (now id : ℕ) (w : Written) : Type 0 where
+  pub table_is : w.route.table ≡ table
+  pub base : w.route.base ≡ at.place
+  pub text : w.route.text ≡ at.text
+  pub draft : w.route.draft ≡ table ++ folder ∷ draft_name id ∷ []
+  pub target : w.route.target ≡ table ++ folder ∷ version_name (at.version + 1) ∷ []
+  pub aim : Aim (number_in table) w.route.draft w.route.base w.route.target
+  pub written : w.bytes ≡ compact_text (next_tree at built now)
+  pub spells : IsMetadata table w.bytes (next_tree at built now)
+  pub short : length w.bytes ≤ file_limit
+
+-- memory lacked, or the written form is too long
+abbrev pub IsUnwritten : Parts → At → Data → ℕ → ℕ → AttemptErr → Type 0
+IsUnwritten table at built now id (attempts.Refused refusal) = ⊥
+IsUnwritten table at built now id (attempts.Conflict place other) = ⊥
+IsUnwritten table at built now id (attempts.NameTaken place) = ⊥
+IsUnwritten table at built now id (attempts.Read (Missing place)) = ⊥
+IsUnwritten table at built now id (attempts.Read (Damaged place where_)) = ⊥
+IsUnwritten table at built now id (attempts.Read (Unsupported place what)) = (what ≡ FileBytes) × (place ≡ table ++ folder ∷ draft_name id ∷ []) × (file_limit < length (compact_text (next_tree at built now)))
+IsUnwritten table at built now id (attempts.Read (StoreFault place)) = ⊥
+IsUnwritten table at built now id (attempts.Read Memory) = Unit {0}
+
+abbrev pub commit_error_by : PublishErr → Parts → Parts → ℕ → CommitErr
+commit_error_by publishes.NameTaken draft table version = Attempt (attempts.NameTaken draft)
+commit_error_by publishes.Contended draft table version = Contended version
+commit_error_by publishes.Unknown draft table version = CommitUnknown version
+commit_error_by (publishes.Fault OnFile) draft table version = Attempt (attempts.Read (StoreFault draft))
+commit_error_by (publishes.Fault OnNames) draft table version = Attempt (attempts.Read (StoreFault table))
+commit_error_by publishes.NoMemory draft table version = Attempt (attempts.Read Memory)
+
+-- a change whose only successor is this tree: what is known of a built one
+module _ (number : Parts → ℕ) (Good : GoodBy) (Reached : ReachBy) (allows : Past → Step → Type 0) (Drawn : ℕ → Type 0) (table : Parts) (now : ℕ) where
+  abbrev pub PublishedLeaves : At → Data → Result Committed CommitErr → Past → Past → Type 0
+  PublishedLeaves at built = AttemptLeaves number Good Reached allows (λ a b. b ≡ built) (λ a. ⊥) (λ a e. ⊥) (λ a. Unit {0}) Drawn table now at
+
+-- the place of the new metadata file whose name a drawn identifier gives, and of the version after it
+abbrev pub draft_at : Parts → ℕ → Parts
+draft_at table id = table ++ folder ∷ draft_name id ∷ []
+
+abbrev pub version_at : Parts → ℕ → Parts
+version_at table version = table ++ folder ∷ version_name version ∷ []
+
+-- nothing was left, or the new metadata file
+abbrev pub MayLeaveDraft : (ℕ → Type 0) → Parts → List Parts → List Parts → Type 0
+MayLeaveDraft Drawn table old new = (new ≡ old) ⊎ ((id : ℕ) × Drawn id × (new ≡ old ++ draft_at table id ∷ []))
+
+-- the new metadata file was left, and where its rename failed the version's place too
+pub record LeavesDraft (Drawn : ℕ → Type 0) (table : Parts) (version : ℕ) (old new : List Parts) : Type 0 where
+  pub id : ℕ
+  pub drawn : Drawn id
+  pub is : (new ≡ old ++ draft_at table id ∷ []) ⊎ (new ≡ old ++ draft_at table id ∷ version_at table version ∷ [])
+
+-- what stands in the log's `left` after a commit: new places only after a store failure or want of memory
+abbrev pub CommitLeft : (ℕ → Type 0) → Parts → Result Committed CommitErr → List Parts → List Parts → Type 0
+CommitLeft Drawn table (Ok c) old new = new ≡ old
+CommitLeft Drawn table (Err (Open e)) old new = new ≡ old
+CommitLeft Drawn table (Err (Attempt (attempts.Refused refusal))) old new = new ≡ old
+CommitLeft Drawn table (Err (Attempt (attempts.Conflict place other))) old new = new ≡ old
+CommitLeft Drawn table (Err (Attempt (attempts.NameTaken place))) old new = new ≡ old
+CommitLeft Drawn table (Err (Attempt (attempts.Read (Missing place)))) old new = new ≡ old
+CommitLeft Drawn table (Err (Attempt (attempts.Read (Damaged place where_)))) old new = new ≡ old
+CommitLeft Drawn table (Err (Attempt (attempts.Read (Unsupported place what)))) old new = new ≡ old
+CommitLeft Drawn table (Err (Attempt (attempts.Read (StoreFault place)))) old new = MayLeaveDraft Drawn table old new
+CommitLeft Drawn table (Err (Attempt (attempts.Read Memory))) old new = MayLeaveDraft Drawn table old new
+CommitLeft Drawn table (Err (Contended version)) old new = new ≡ old
+CommitLeft Drawn table (Err (CommitUnknown version)) old new = LeavesDraft Drawn table version old new
+
+-- a version is committed exactly where it was published
+abbrev pub commits : Result Committed CommitErr → List ℕ → List ℕ
+commits (Ok (Same version)) committed = committed
+commits (Ok (Published version)) committed = committed ++ version ∷ []
+commits (Err e) committed = committed

@@ -1,0 +1,250 @@
+//! A commit: the table is opened, the change asked, and what it built published as the next version.
+ghost use Rattle.std.specs.Prelude.{◌≡◌, ◌≤◌, ◌<◌, ◌+◌, ◌^◌, ◌++◌, ◌∷◌, [], IfOk, IfErr, IsUtf8};
+ghost use Rattle.ice_store.specs.Others.{WhereTold};
+ghost use Rattle.ice_store.specs.Since.{Since};
+ghost use Rattle.ice_store.specs.Given.{Gives};
+ghost use Rattle.serde_json.specs.View.{view};
+ghost use Rattle.table_history.specs.Mannered.{IsMannered};
+ghost use Rattle.table_history.specs.Versions.{number_in};
+ghost use Rattle.table_metadata.specs.Edits.{HasVersionLimit};
+ghost use Rattle.table_publish.specs.Stages.{Narrow, NoReach, Creating, At as Stands};
+ghost use Rattle.table_publish.specs.Leaves.{Halts};
+ghost use Rattle.version_open.specs.Latest.{IsBaseNumber};
+ghost use Rattle.version_open.specs.Opening.{OpenStage};
+ghost use Rattle.commit_protocol.specs.Metadata.{IsTableOf, IsMetadata};
+ghost use Rattle.commit_protocol.specs.Attempts.{StaysTable, TellsLimit, AttemptLeaves, CommitLeaves};
+ghost use Rattle.commit_protocol.specs.Causes.{CommitRose, AttemptErrRose};
+ghost use Rattle.commit_protocol.specs.Verdicts.{IsNobody, IsIdle, IsDecided, IsOneDrawn, CommitVerdict, IsExactCommit};
+ghost use Rattle.ice_store.specs.History.{replay};
+ghost use Rattle.table_history.specs.Versions.{folder};
+ghost use Rattle.serde_json.specs.Written.{compact_text};
+ghost use Rattle.table_metadata.specs.Spelling.{Spells};
+ghost use Rattle.table_metadata.specs.Edits.{next_version};
+ghost use Rattle.table_publish.specs.Stages.{Aim};
+ghost use Rattle.version_names.specs.Names.{version_text_of, version_name, draft_name};
+ghost use Rattle.commit_protocol.specs.Written.{IsWritten, IsUnwritten, CommitLeft, PublishedLeaves, commits, commit_error_by};
+
+use crate::change::{Built, Change};
+use crate::errors::{AttemptErr, CommitErr, Committed};
+use crate::opening::{At, Metadata, open_table};
+use ice_store::{Bytes, Ids, Manners, Place, ReadErr, Store, Text, What, Where};
+use std::alloc::{AllocError, Global};
+use table_metadata::{Meta, write_meta};
+use table_publish::{Call, Log, PublishErr, Route, publish_version};
+use version_names::{draft_place, version_place, version_text};
+use version_open::FILE_LIMIT;
+
+// the written form of the next version's metadata
+fn next_bytes(alloc: Global, meta: &Meta, previous: &Text, now: u64) -> Result<Bytes, AllocError>
+    requires utf8 { IsUtf8 previous.now }
+    requires moment { now < 2 ^ 63 }
+    requires limit { HasVersionLimit (view meta.now) }
+    ensures text { IfOk result (λ b. b ≡ compact_text (next_version previous.now now (view meta.now))) }
+    ensures spells { IfOk result (λ b. Spells b (next_version previous.now now (view meta.now))) }
+{
+    let next = meta.next_version(alloc, previous, now)?;
+    write_meta(alloc, &next)
+}
+
+fn route_of(alloc: Global, table: &Place, at: At, draft: Place) -> Result<Route, AllocError>
+    requires numbers { IsBaseNumber (number_in table.now) at.place at.version }
+    requires plain { number_in table.now draft ≡ 0 }
+    ensures table { IfOk result (λ r. r.table ≡ table.now) }
+    ensures base { IfOk result (λ r. r.base ≡ at.place) }
+    ensures text { IfOk result (λ r. r.text ≡ at.text) }
+    ensures draft { IfOk result (λ r. r.draft ≡ draft) }
+    ensures target { IfOk result (λ r. r.target ≡ table.now ++ folder ∷ version_name (at.version + 1) ∷ []) }
+    ensures aim { IfOk result (λ r. Aim (number_in table.now) r.draft r.base r.target) }
+{
+    let target = version_place(alloc, table, at.version + 1)?;
+    let table = table.copy()?;
+    Ok(Route {
+        table,
+        base: at.place,
+        text: at.text,
+        draft,
+        target,
+    })
+}
+
+/// A new metadata file that is drawn up: where it is to go, and its bytes.
+#[derive(Drop)]
+pub(crate) struct Written {
+    route: Route,
+    bytes: Bytes,
+}
+
+fn draw_up(
+    alloc: Global,
+    table: &Place,
+    at: At,
+    meta: &Meta,
+    now: u64,
+    id: u128,
+) -> Result<Written, AttemptErr>
+    requires numbers { IsBaseNumber (number_in table.now) at.place at.version }
+    requires metadata { IsMetadata table.now at.text (view at.meta) }
+    requires stays { StaysTable (view at.meta) (view meta.now) }
+    requires limit { HasVersionLimit (view at.meta) }
+    requires moment { now < 2 ^ 63 }
+    ensures ok { IfOk result (λ w. IsWritten table.now at (view meta.now) now id w) }
+    ensures err { IfErr result (λ e. IsUnwritten table.now at (view meta.now) now id e) }
+{
+    let previous = version_text(alloc, at.meta.location(), at.version)?;
+    let bytes = next_bytes(alloc, meta, &previous, now)?;
+    let draft = draft_place(alloc, table, id)?;
+    if bytes.len() > FILE_LIMIT {
+        return Err(AttemptErr::Read(ReadErr::Unsupported {
+            place: draft,
+            what: What::FileBytes,
+        }));
+    }
+    let route = route_of(alloc, table, at, draft)?;
+    Ok(Written { route, bytes })
+}
+
+// what a publish's error is at the commit
+fn commit_error(e: PublishErr, route: Route, version: u64) -> CommitErr
+    ensures { result ≡ commit_error_by e route.draft route.table version }
+{
+    match e {
+        PublishErr::NameTaken => CommitErr::Attempt(AttemptErr::NameTaken { place: route.draft }),
+        PublishErr::Contended => CommitErr::Contended { version },
+        PublishErr::Unknown => CommitErr::CommitUnknown { version },
+        PublishErr::Fault(Call::OnFile) => CommitErr::Attempt(AttemptErr::Read(ReadErr::StoreFault {
+            place: route.draft,
+        })),
+        PublishErr::Fault(Call::OnNames) => CommitErr::Attempt(AttemptErr::Read(
+            ReadErr::StoreFault { place: route.table },
+        )),
+        PublishErr::NoMemory => CommitErr::Attempt(AttemptErr::Read(ReadErr::Memory)),
+    }
+}
+
+fn publish_built<M: Manners, S: Store<M>, I: Ids>(
+    alloc: Global,
+    store: &mut S,
+    ids: &mut I,
+    now: u64,
+    table: &Place,
+    at: At,
+    meta: Meta,
+    log: &mut Log,
+) -> Result<Committed, CommitErr>
+    requires mannered { IsMannered (number_in table.now) (Narrow IsTableOf table.now) NoReach (M.allows (S.manners store.old)) }
+    requires numbers { IsBaseNumber (number_in table.now) at.place at.version }
+    requires metadata { IsMetadata table.now at.text (view at.meta) }
+    requires stays { StaysTable (view at.meta) (view meta) }
+    requires limit { HasVersionLimit (view at.meta) }
+    requires moment { now < 2 ^ 63 }
+    requires start { WhereTold (S.past store.old) (Stands (OpenStage (number_in table.now) at.place)) }
+    ensures told { Since (S.past store.old) (S.past store.new) (PublishedLeaves (number_in table.now) (Narrow IsTableOf table.now) NoReach (M.allows (S.manners store.old)) (Gives (I.given ids.old) (I.given ids.new)) table.now now at (view meta) result) }
+    ensures manners { S.manners store.new ≡ S.manners store.old }
+    ensures cause { CommitRose result (S.faults store.old) (S.faults store.new) }
+    ensures later { S.faults store.old ≤ S.faults store.new }
+    ensures halted { Halts result (S.halted store.old) (S.halted store.new) (S.past store.new) }
+    ensures committed { log.new.committed.items ≡ commits result log.old.committed.items }
+    ensures left { CommitLeft (Gives (I.given ids.old) (I.given ids.new)) table.now result log.old.left.items log.new.left.items }
+{
+    let id = ids.next();
+    let version = at.version + 1;
+    let written = match draw_up(alloc, table, at, &meta, now, id) {
+        Ok(written) => written,
+        Err(e) => return Err(CommitErr::Attempt(e)),
+    };
+    match publish_version::<Metadata, M, S>(
+        store,
+        &written.route,
+        version,
+        written.bytes.inner(),
+        log,
+    ) {
+        Ok(()) => Ok(Committed::Published { version }),
+        Err(e) => Err(commit_error(e, written.route, version)),
+    }
+}
+
+fn unreadable_limit(alloc: Global, place: Place) -> CommitErr
+    ensures { TellsLimit place result }
+{
+    let path = b"properties.write.metadata.previous-versions-max";
+    CommitErr::Attempt(AttemptErr::Read(match Text::copy_of(alloc, path) {
+        Ok(path) => ReadErr::Damaged {
+            place,
+            at: Where::Path(path),
+        },
+        Err(_) => ReadErr::Memory,
+    }))
+}
+
+fn attempt_on<M: Manners, S: Store<M>, I: Ids, X: Change<M>>(
+    alloc: Global,
+    store: &mut S,
+    ids: &mut I,
+    now: u64,
+    table: &Place,
+    at: At,
+    change: &mut X,
+    log: &mut Log,
+) -> Result<Committed, CommitErr>
+    requires mannered { IsMannered (number_in table.now) (Narrow IsTableOf table.now) NoReach (M.allows (S.manners store.old)) }
+    requires numbers { IsBaseNumber (number_in table.now) at.place at.version }
+    requires metadata { IsMetadata table.now at.text (view at.meta) }
+    requires moment { now < 2 ^ 63 }
+    requires start { WhereTold (S.past store.old) (Stands (OpenStage (number_in table.now) at.place)) }
+    ensures told { Since (S.past store.old) (S.past store.new) (AttemptLeaves (number_in table.now) (Narrow IsTableOf table.now) NoReach (M.allows (S.manners store.old)) (X.successor change.old) (X.same change.old) (X.refuses change.old) (X.seen change.old change.new) (Gives (I.given ids.old) (I.given ids.new)) table.now now at result) }
+    ensures manners { S.manners store.new ≡ S.manners store.old }
+    ensures cause { CommitRose result (S.faults store.old) (S.faults store.new) }
+    ensures later { S.faults store.old ≤ S.faults store.new }
+    ensures halted { Halts result (S.halted store.old) (S.halted store.new) (S.past store.new) }
+    ensures committed { log.new.committed.items ≡ commits result log.old.committed.items }
+    ensures left { CommitLeft (Gives (I.given ids.old) (I.given ids.new)) table.now result log.old.left.items log.new.left.items }
+{
+    if !at.meta.has_version_limit() {
+        return Err(unreadable_limit(alloc, at.place));
+    }
+    match change.attempt::<S, I>(alloc, store, ids, table, &at, now, log) {
+        Ok(Built::Next(meta)) => publish_built::<M, S, I>(
+            alloc, store, ids, now, table, at, meta, log,
+        ),
+        Ok(Built::Same) => Ok(Committed::Same {
+            version: at.version,
+        }),
+        Err(e) => Err(CommitErr::Attempt(e)),
+    }
+}
+
+/// Commits a change: opens the table, asks the change, writes what it built under a name of its own, seals it, syncs the
+/// names, renames it to the next version and syncs again. Nothing is published where there is nothing to change. The one
+/// identifier that is drawn names the new metadata file. `Contended` comes where the next version was taken: the new file
+/// is then removed. After a store failure no further store call is made. Where nobody else acts, the answer's exact cause
+/// stands in the files at the entry and in the change's meanings (`alone`), and no other answer has its there (`exactly`).
+pub fn commit<M: Manners, S: Store<M>, I: Ids, X: Change<M>>(
+    alloc: Global,
+    store: &mut S,
+    ids: &mut I,
+    now: u64,
+    table: &Place,
+    change: &mut X,
+    log: &mut Log,
+) -> Result<Committed, CommitErr>
+    requires mannered { IsMannered (number_in table.now) (Narrow IsTableOf table.now) NoReach (M.allows (S.manners store.old)) }
+    requires moment { now < 2 ^ 63 }
+    requires start { WhereTold (S.past store.old) (Stands (λ d. Creating d.pending)) }
+    ensures told { Since (S.past store.old) (S.past store.new) (CommitLeaves (number_in table.now) (Narrow IsTableOf table.now) NoReach (M.allows (S.manners store.old)) (X.successor change.old) (X.same change.old) (X.refuses change.old) (X.seen change.old change.new) (Gives (I.given ids.old) (I.given ids.new)) table.now now result) }
+    ensures manners { S.manners store.new ≡ S.manners store.old }
+    ensures cause { CommitRose result (S.faults store.old) (S.faults store.new) }
+    ensures later { S.faults store.old ≤ S.faults store.new }
+    ensures halted { Halts result (S.halted store.old) (S.halted store.new) (S.past store.new) }
+    ensures committed { log.new.committed.items ≡ commits result log.old.committed.items }
+    ensures left { CommitLeft (Gives (I.given ids.old) (I.given ids.new)) table.now result log.old.left.items log.new.left.items }
+    ensures alone { IsNobody (M.allows (S.manners store.old)) → Since (S.past store.old) (S.past store.new) (λ old new. CommitVerdict (X.successor change.old) (X.same change.old) (X.refuses change.old) (Gives (I.given ids.old) (I.given ids.new)) table.now now (replay old).files result) }
+    ensures exactly { IsNobody (M.allows (S.manners store.old)) → IsDecided (X.successor change.old) (X.same change.old) (X.refuses change.old) → IsOneDrawn (Gives (I.given ids.old) (I.given ids.new))
+        → Since (S.past store.old) (S.past store.new) (λ old new. IsExactCommit (X.successor change.old) (X.same change.old) (X.refuses change.old) (Gives (I.given ids.old) (I.given ids.new)) table.now now result (replay old).files) }
+    ensures idle { IsNobody (M.allows (S.manners store.old)) → Since (S.past store.old) (S.past store.new) (IsIdle result) }
+{
+    match open_table::<M, S>(alloc, store, table) {
+        Ok(at) => attempt_on::<M, S, I, X>(alloc, store, ids, now, table, at, change, log),
+        Err(e) => Err(CommitErr::Open(e)),
+    }
+}

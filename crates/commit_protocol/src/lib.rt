@@ -1,0 +1,23 @@
+//! How a change is committed to a table: the last version is opened, the change is asked, and what it built is published
+//! as the next version. Other writers may act between any two store calls, as their manners allow.
+//!
+//! - `opening`: `open_table`; what it tells is defined in `specs/Metadata.antt`.
+//! - `change`: the trait of changes.
+//! - `commit`: one attempt; what it tells is defined in `specs/Attempts.antt`.
+//! - `verdict`: the law that each answer has a cause of its own where nobody else acts (`specs/Verdicts.antt`).
+//! - `errors`: the refusals and errors of all of them.
+#![tactic(auto)]
+
+mod change;
+mod commit;
+mod errors;
+mod opening;
+mod verdict;
+
+pub use change::{Built, Change};
+pub use commit::commit as commit_change;
+pub use errors::{AttemptErr, CommitErr, Committed, Other, Refusal};
+pub use opening::{At, Metadata, open_table};
+pub use table_publish::Log;
+pub use verdict::{one_commit, one_opening};
+pub use version_open::OpenErr;

@@ -1,0 +1,20 @@
+//! The law of verdicts: where nobody else acts, no two answers of an opening or of a commit fit the same files. The
+//! functions here have empty bodies: their contracts are the law.
+ghost use Rattle.std.specs.Prelude.{ℕ, List, Option, Some};
+ghost use Rattle.ice_store.specs.Given.{Gives};
+ghost use Rattle.commit_protocol.specs.Verdicts.{IsOneOpening, IsOneCommit, IsDecided};
+
+use crate::change::Change;
+use ice_store::{Manners, Place};
+
+/// Two told verdicts of one opening show the same: the place, the version, its bytes and its metadata, or the error.
+pub fn one_opening(table: &Place)
+    ensures { IsOneOpening table.now }
+{}
+
+/// Two told verdicts of one commit are one, where the meanings of its change exclude one another and the source of
+/// identifiers tells what it gives.
+pub fn one_commit<M: Manners, X: Change<M>>(table: &Place, change: &X)
+    ensures { (now : ℕ) (before : Option (List ℕ)) (values : List ℕ) → IsDecided (X.successor change.now) (X.same change.now) (X.refuses change.now)
+        → IsOneCommit table.now now (X.successor change.now) (X.same change.now) (X.refuses change.now) (Gives before (Some values)) }
+{}

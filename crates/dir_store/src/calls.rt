@@ -1,0 +1,147 @@
+//! Calls of the file system on single paths, and why one didn't do its work.
+use ice_store::{Bytes, Place};
+use std::alloc::{AllocError, Global};
+use std::fs::{File, Metadata};
+use std::io::{ErrorKind, Read, Seek, SeekFrom, Write};
+use std::{fs, io};
+
+/// Why a call of the file system didn't do its work.
+#[derive(Debug, Clone, Copy, PartialEq, Eq)]
+pub enum CallErr {
+    /// Memory lacked, and nothing was changed.
+    Memory,
+    /// The system refused the call, or stopped in the middle of it.
+    Refused,
+    /// The system couldn't make something durable.
+    Unsynced,
+}
+
+impl From<AllocError> for CallErr {
+    fn from(_: AllocError) -> Self {
+        CallErr::Memory
+    }
+}
+
+/// Why a call that changes nothing failed.
+pub fn cause_of(error: io::Error) -> CallErr {
+    match error.kind() {
+        ErrorKind::OutOfMemory => CallErr::Memory,
+        _ => CallErr::Refused,
+    }
+}
+
+/// The path of a place, for the system.
+pub fn path_of(place: &Place) -> Result<String, CallErr> {
+    match String::from_utf8(place.text()?.into_inner()) {
+        Ok(path) => Ok(path),
+        Err(_) => Err(CallErr::Refused),
+    }
+}
+
+/// The path of the directory that holds a path: what stands before its last slash, or the root.
+pub fn parent_of(path: &str) -> &str {
+    match path.rsplit_once('/') {
+        Some(("", _)) | None => "/",
+        Some((parent, _)) => parent,
+    }
+}
+
+/// Whether a call failed because nothing stands at its path.
+pub fn is_absent(error: &io::Error) -> bool {
+    matches!(error.kind(), ErrorKind::NotFound | ErrorKind::NotADirectory)
+}
+
+/// What stands at a path, of whatever kind; symbolic links aren't followed.
+pub fn look(rt: &HostRuntime, path: &str) -> Result<Option<Metadata>, CallErr> {
+    match fs::symlink_metadata(rt, path) {
+        Ok(found) => Ok(Some(found)),
+        Err(e) if is_absent(&e) => Ok(None),
+        Err(_) => Err(CallErr::Refused),
+    }
+}
+
+/// The regular file that stands at a path. Anything else there is refused, so that no caller takes the place for free or
+/// reaches another file through a link.
+pub fn look_for_file(rt: &HostRuntime, path: &str) -> Result<Option<Metadata>, CallErr> {
+    match look(rt, path)? {
+        Some(found) if !found.is_file() => Err(CallErr::Refused),
+        found => Ok(found),
+    }
+}
+
+/// The length in bytes of the regular file that stands at a path.
+pub fn size_of(rt: &HostRuntime, path: &str) -> Result<Option<u64>, CallErr> {
+    Ok(look_for_file(rt, path)?.map(|found| found.len()))
+}
+
+/// Whether a regular file stands at a path.
+pub fn is_file(rt: &HostRuntime, path: &str) -> Result<bool, CallErr> {
+    Ok(look_for_file(rt, path)?.is_some())
+}
+
+/// A part of a file, as `Store::read_at` gives it.
+pub fn read_part(
+    rt: &HostRuntime,
+    path: &str,
+    from: u64,
+    len: usize,
+) -> Result<Option<Bytes>, CallErr> {
+    if !is_file(rt, path)? {
+        return Ok(None);
+    }
+    match File::open(rt, path) {
+        Ok(mut file) => Ok(Some(part_of(rt.alloc(), &mut file, from, len)?)),
+        Err(e) if is_absent(&e) => Ok(None),
+        Err(_) => Err(CallErr::Refused),
+    }
+}
+
+fn part_of(alloc: Global, file: &mut File, from: u64, len: usize) -> Result<Bytes, CallErr> {
+    let Ok(found) = file.metadata() else {
+        return Err(CallErr::Refused);
+    };
+    // what the file has behind the offset, so that a large `len` takes no more room
+    let left = found.len().saturating_sub(from);
+    let room = usize::try_from(left).unwrap_or(usize::MAX).min(len);
+    let mut bytes = vec![in alloc; 0u8; room]?;
+    if room > 0 && file.seek(SeekFrom::Start(from)).is_err() {
+        return Err(CallErr::Refused);
+    }
+    let filled = fill(file, bytes.as_mut_slice())?;
+    bytes.truncate(filled);
+    Ok(Bytes::new(bytes))
+}
+
+/// Reads until the buffer is full or the file ends; answers how many bytes were read.
+pub fn fill<R: Read>(file: &mut R, buffer: &mut [u8]) -> Result<usize, CallErr> {
+    let mut filled = 0;
+    for _ in 0..u64::MAX {
+        if filled >= buffer.len() {
+            return Ok(filled);
+        }
+        match file.read(&mut buffer[filled..]) {
+            Ok(0) => return Ok(filled),
+            Ok(n) => filled += n,
+            Err(e) if e.kind() == ErrorKind::Interrupted => {}
+            Err(_) => return Err(CallErr::Refused),
+        }
+    }
+    Err(CallErr::Refused)
+}
+
+/// Writes all of the bytes, or fails after a prefix of them. A write that takes nothing is a failure.
+pub fn write_whole<W: Write>(out: &mut W, bytes: &[u8]) -> Result<(), CallErr> {
+    let mut rest = bytes;
+    for _ in 0..u64::MAX {
+        if rest.is_empty() {
+            return Ok(());
+        }
+        match out.write(rest) {
+            Ok(0) => return Err(CallErr::Refused),
+            Ok(n) => rest = &rest[n..],
+            Err(e) if e.kind() == ErrorKind::Interrupted => {}
+            Err(_) => return Err(CallErr::Refused),
+        }
+    }
+    Err(CallErr::Refused)
+}

@@ -1,0 +1,98 @@
+//! The regular files under a directory.
+use crate::calls::{CallErr, cause_of, is_absent, look, path_of};
+use crate::clock::ms_since_1970;
+use ice_store::{Items, Listed, ListedList, Place, is_part};
+use std::fs;
+use std::fs::Metadata;
+
+/// All regular files under a place, at any depth, in place order, without the file at the path `hidden`. Symbolic links
+/// are neither followed nor listed, and what is gone before it is looked at isn't listed. A name that isn't UTF-8 is
+/// refused.
+pub fn files_under(rt: &HostRuntime, dir: &Place, hidden: &str) -> Result<ListedList, CallErr> {
+    let mut found = Vec::new(rt.alloc());
+    let mut waiting = Vec::new(rt.alloc());
+    add_place(dir.copy()?, &mut waiting)?;
+    for _ in 0..u64::MAX {
+        match waiting.pop() {
+            Some(place) => visit(rt, place, hidden, &mut waiting, &mut found)?,
+            None => return Ok(in_place_order(found)),
+        }
+    }
+    Err(CallErr::Refused)
+}
+
+fn in_place_order(mut found: Vec<Listed>) -> ListedList {
+    found.sort_unstable();
+    Items::new(found)
+}
+
+// Lists the file at a place, or adds what the directory there holds to the places that wait.
+fn visit(
+    rt: &HostRuntime,
+    place: Place,
+    hidden: &str,
+    waiting: &mut Vec<Place>,
+    found: &mut Vec<Listed>,
+) -> Result<(), CallErr> {
+    let path = path_of(&place)?;
+    match look(rt, path.as_str())? {
+        Some(seen) if seen.is_dir() => add_children(rt, &place, path.as_str(), waiting),
+        Some(seen) if seen.is_file() && path.as_str() != hidden => {
+            add_listed(place, &seen, found)
+        }
+        _ => Ok(()),
+    }
+}
+
+fn listed(place: Place, seen: &Metadata) -> Listed {
+    let ms = match seen.modified() {
+        Ok(time) => ms_since_1970(time),
+        Err(_) => 0,
+    };
+    Listed {
+        place,
+        ms,
+        size: seen.len(),
+    }
+}
+
+fn add_children(
+    rt: &HostRuntime,
+    dir: &Place,
+    path: &str,
+    waiting: &mut Vec<Place>,
+) -> Result<(), CallErr> {
+    let entries = match fs::read_dir(rt, path) {
+        Ok(entries) => entries,
+        Err(e) if is_absent(&e) => return Ok(()),
+        Err(e) => return Err(cause_of(e)),
+    };
+    for entry in entries {
+        match entry {
+            Ok(entry) => add_child(dir, entry.file_name().as_bytes(), waiting)?,
+            Err(e) => return Err(cause_of(e)),
+        }
+    }
+    Ok(())
+}
+
+fn add_child(dir: &Place, name: &[u8], waiting: &mut Vec<Place>) -> Result<(), CallErr> {
+    if !is_part(name) {
+        return Err(CallErr::Refused);
+    }
+    add_place(dir.child(name)?, waiting)
+}
+
+fn add_place(place: Place, waiting: &mut Vec<Place>) -> Result<(), CallErr> {
+    match waiting.push(place) {
+        Ok(()) => Ok(()),
+        Err(_) => Err(CallErr::Memory),
+    }
+}
+
+fn add_listed(place: Place, seen: &Metadata, found: &mut Vec<Listed>) -> Result<(), CallErr> {
+    match found.push(listed(place, seen)) {
+        Ok(()) => Ok(()),
+        Err(_) => Err(CallErr::Memory),
+    }
+}

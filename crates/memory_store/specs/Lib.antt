@@ -1,0 +1,5 @@
+pub mod Took
+pub mod Torn
+pub mod Failing
+pub mod Given
+pub mod Sinks

@@ -1,0 +1,4 @@
+pub mod AimLaws
+pub mod AimTexts
+pub mod ListingLaws
+pub mod RefLaws

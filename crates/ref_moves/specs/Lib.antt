@@ -1,0 +1,4 @@
+pub mod Ancestors
+pub mod Laws
+pub mod Moves
+pub mod Refs

@@ -1,0 +1,9 @@
+pub mod Numbering
+pub mod Agreeing
+pub mod Imaging
+pub mod Following
+pub mod Stepping
+pub mod Manners
+pub mod ListingLaws
+pub mod Acknowledging
+pub mod Running

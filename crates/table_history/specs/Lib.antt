@@ -1,0 +1,7 @@
+pub mod Versions
+pub mod Tables
+pub mod Commits
+pub mod Steady
+pub mod Listings
+pub mod Mannered
+pub mod Runs

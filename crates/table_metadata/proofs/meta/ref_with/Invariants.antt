@@ -1,0 +1,6 @@
+use Rattle.std.proofs.Common.{◌≡◌, drop}
+use Rattle.table_metadata.specs.View.{ref_with}
+use Rattle.table_metadata.proofs.meta.ref_with.Given as goal
+
+abbrev pub invariant-loop-reference : goal.invariant-loop-reference
+invariant-loop-reference l = ref_with l.refs l.name ≡ ref_with (drop l.reference-index l.refs) l.name

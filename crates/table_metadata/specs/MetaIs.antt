@@ -1,0 +1,16 @@
+-- What a `Meta` keeps of its tree.
+use Rattle.std.specs.Prelude.{◌≡◌, ◌≤◌, None, IsUtf8}
+use Rattle.serde_json.specs.Data.{depth}
+use Rattle.serde_json.specs.Read.{max_depth}
+use Rattle.serde_json.specs.View.{view}
+use Rattle.table_metadata.specs.Fault.{fault_of}
+use Rattle.table_metadata.specs.View.{typed_of, snapshots_of}
+use Rattle.table_metadata.specs.Index.{IsIndex}
+use Rattle.table_metadata.specs.declared.meta.Meta.TheInside.{Inside}
+
+pub record IsTyped (m : Inside) : Type 0 where
+  pub sound : fault_of (view m.tree) ≡ None
+  pub shallow : depth (view m.tree) ≤ max_depth
+  pub typed : m.typed ≡ typed_of (view m.tree)
+  pub index : IsIndex m.index (snapshots_of (view m.tree))
+  pub utf8 : IsUtf8 m.typed.location

@@ -1,0 +1,125 @@
+//! The edits of metadata, on its tree.
+ghost use Rattle.std.specs.Prelude.{◌≡◌, ◌<◌, IfOk, option_map};
+ghost use Rattle.serde_json.specs.View.{view};
+ghost use Rattle.table_metadata.specs.Edits.{moved_ref, with_moved_ref, snapshot_log_item, with_current, moment_of, with_ref, decimal_of, metadata_log_item, with_previous, next_keeping};
+
+use crate::typed::new_branch;
+use json_edits::{add, add_within, object_at, set, unsigned_or_zero};
+use serde_json::{Value, json};
+use std::alloc::{AllocError, Global};
+
+#[tactic(auto, unfolding(crate::specs::Edits::moved_ref))]
+fn moved_ref(alloc: Global, old: Option<&Value>, id: i64) -> Result<Value, AllocError>
+    ensures { IfOk result (λ v. view v ≡ moved_ref id (option_map (λ r. view r.now) old.entry)) }
+{
+    match old {
+        Some(old) => set(alloc, old.clone()?, "snapshot-id", Value::from(id)),
+        None => new_branch(alloc, id),
+    }
+}
+
+#[tactic(auto, unfolding(crate::specs::Edits::with_moved_ref))]
+fn with_moved_ref(alloc: Global, tree: Value, name: &str, id: i64) -> Result<Value, AllocError>
+    ensures { IfOk result (λ v. view v ≡ with_moved_ref name.now id (view tree)) }
+{
+    let refs = object_at(alloc, &tree, "refs")?;
+    let moved = moved_ref(alloc, refs.get(name), id)?;
+    let refs = set(alloc, refs, name, moved)?;
+    set(alloc, tree, "refs", refs)
+}
+
+#[tactic(auto, unfolding(crate::specs::Edits::snapshot_log_item))]
+fn snapshot_log_item(alloc: Global, id: i64, t: u64) -> Result<Value, AllocError>
+    ensures { IfOk result (λ v. view v ≡ snapshot_log_item id t) }
+{
+    json!(in alloc; {"snapshot-id": id, "timestamp-ms": t})
+}
+
+#[tactic(auto, unfolding(crate::specs::Edits::with_current))]
+fn with_current(alloc: Global, tree: Value, id: i64, t: u64) -> Result<Value, AllocError>
+    ensures { IfOk result (λ v. view v ≡ with_current id t (view tree)) }
+{
+    let tree = set(alloc, tree, "current-snapshot-id", Value::from(id))?;
+    let item = snapshot_log_item(alloc, id, t)?;
+    add(alloc, tree, "snapshot-log", item)
+}
+
+fn moment(ms: u64, tree: &Value) -> u64
+    ensures { result ≡ moment_of ms (view tree.now) }
+{
+    ms.max(unsigned_or_zero(tree, "last-updated-ms"))
+}
+
+/// The tree with a ref moved to a snapshot.
+#[tactic(auto, unfolding(crate::specs::Edits::with_ref))]
+pub(crate) fn with_ref(
+    alloc: Global,
+    tree: &Value,
+    name: &str,
+    id: i64,
+    ms: u64,
+) -> Result<Value, AllocError>
+    ensures { IfOk result (λ v. view v ≡ with_ref name.now id ms (view tree.now)) }
+{
+    let t = moment(ms, tree);
+    let moved = with_moved_ref(alloc, tree.clone()?, name, id)?;
+    if name == "main" {
+        with_current(alloc, moved, id, t)
+    } else {
+        Ok(moved)
+    }
+}
+
+/// The number that decimal digits stand for, where it is at most 2^63 - 1.
+#[tactic(auto, unfolding(crate::specs::Edits::decimal_of))]
+pub(crate) fn decimal(text: &[u8]) -> Option<u64>
+    ensures { result ≡ decimal_of text.now }
+{
+    if text.is_empty() {
+        return None;
+    }
+    let mut n: u128 = 0;
+    for digit in text {
+        if !digit.is_ascii_digit() {
+            return None;
+        }
+        n = n * 10 + (*digit - b'0') as u128;
+        if n >= 1 << 63 {
+            return None;
+        }
+    }
+    Some(n as u64)
+}
+
+#[tactic(auto, unfolding(crate::specs::Edits::metadata_log_item))]
+fn metadata_log_item(alloc: Global, previous: &str, t: u64) -> Result<Value, AllocError>
+    ensures { IfOk result (λ v. view v ≡ metadata_log_item previous.now t) }
+{
+    json!(in alloc; {"metadata-file": previous, "timestamp-ms": t})
+}
+
+#[tactic(auto, unfolding(crate::specs::Edits::with_previous))]
+fn with_previous(alloc: Global, tree: Value, previous: &str, most: u64) -> Result<Value, AllocError>
+    requires { 0 < most }
+    ensures { IfOk result (λ v. view v ≡ with_previous most previous.now (view tree)) }
+{
+    let item = metadata_log_item(alloc, previous, unsigned_or_zero(&tree, "last-updated-ms"))?;
+    add_within(alloc, tree, "metadata-log", item, most)
+}
+
+/// The tree of the next version, whose metadata log keeps at most `most` items.
+#[tactic(auto, unfolding(crate::specs::Edits::next_keeping))]
+pub(crate) fn next_version(
+    alloc: Global,
+    tree: &Value,
+    previous: &str,
+    ms: u64,
+    most: u64,
+) -> Result<Value, AllocError>
+    requires { 0 < most }
+    ensures { IfOk result (λ v. view v ≡ next_keeping most previous.now ms (view tree.now)) }
+{
+    let t = moment(ms, tree);
+    let longer = with_previous(alloc, tree.clone()?, previous, most)?;
+    set(alloc, longer, "last-updated-ms", Value::from(t))
+}

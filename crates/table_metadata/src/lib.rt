@@ -1,0 +1,24 @@
+//! Table metadata of Apache Iceberg tables, format version 2: which bytes spell it, what it says, and the edits that
+//! make the metadata of the next version. Metadata is kept as its JSON tree with a typed view beside it, so fields that
+//! this crate doesn't know stay through each edit.
+#![tactic(auto)]
+
+mod cause;
+mod edits;
+mod index;
+mod links;
+mod meta;
+mod steps;
+#[cfg(test)]
+mod tests;
+mod typed;
+mod types;
+mod walk;
+
+pub use cause::{EditErr, MetaErr};
+pub use meta::{Meta, read_meta, write_meta};
+pub use metadata_faults::MetaCause;
+pub use types::{
+    IdList, Property, PropertyList, Ref, RefList, Snapshot, SnapshotList, Statistics,
+    StatisticsList,
+};

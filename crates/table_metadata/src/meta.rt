@@ -1,0 +1,372 @@
+//! Metadata: its tree, with a typed view beside it.
+ghost use Rattle.std.specs.Prelude.{◌≡◌, ◌≢◌, ◌≤◌, ◌<◌, ◌^◌, ◌↔◌, [], Some, None, List, ℕ, IfOk, IfErr, OnOk, IsUtf8, IsSome, IsTrue, is_some, option_map, codes};
+ghost use Rattle.serde_json.specs.Data.{Data, depth};
+ghost use Rattle.serde_json.specs.Find.{get};
+ghost use Rattle.serde_json.specs.Read.{max_depth, read};
+ghost use Rattle.serde_json.specs.View.{view};
+ghost use Rattle.serde_json.specs.Written.{compact_text};
+ghost use Rattle.metadata_faults.specs.Fault.{form_fault};
+ghost use Rattle.metadata_faults.specs.declared.fault.MetaCause.TheVariants.{NotJson};
+ghost use Rattle.table_metadata.specs.Fault.{fault_of};
+ghost use Rattle.table_metadata.specs.View.{value_in, uuid_of, location_of, last_sequence_of, updated_of, current_of, current_schema_id_of, default_spec_id_of, snapshots_of, refs_of, ref_with, statistics_of, property_of};
+ghost use Rattle.table_metadata.specs.Spelling.{Spells, IsRefused, IsReadAs, IsUnknown, IsFaultOf};
+ghost use Rattle.table_metadata.specs.Edits.{with_ref, next_version, version_limit, HasVersionLimit};
+ghost use Rattle.table_metadata.specs.Walk.{IsWalk, IsAncestor, snapshot_with};
+ghost use Rattle.table_metadata.specs.declared.cause.MetaErr.TheVariants.{Bad};
+ghost use Rattle.table_metadata.specs.declared.cause.EditErr.TheVariants.{UnknownSnapshot};
+
+use crate::cause::{EditErr, MetaErr};
+use crate::index::{Index, Indexed, find, has, index_of};
+use crate::links::{double_id, links_fault};
+use crate::typed::{Typed, typed_view};
+use crate::types::{IdList, Property, Ref, RefList, Snapshot, SnapshotList, StatisticsList};
+use crate::{edits, walk};
+use ice_store::{Bytes, Items, Text};
+use metadata_faults::{Fault, MetaCause, form_fault};
+use serde_json::Value;
+use std::alloc::{AllocError, Global};
+use std::marker::Model;
+
+/// Well-formed metadata, which contracts see as its JSON tree.
+#[derive(Drop)]
+pub struct Meta {
+    tree: Value,
+    typed: Typed,
+    index: Index,
+}
+
+impl Model for Meta {
+    ghost use Rattle.serde_json.specs.contracts.value.Value as e;
+    ghost use Rattle.std.specs.Coded.{codes};
+    ghost use Rattle.serde_json.specs.declared.value.Value.{Value as Json};
+
+    ghost Value = { Json };
+
+    ghost coded = { Prim.hlevel (codes, e.the_row.coded) };
+
+    ghost use Rattle.table_metadata.specs.MetaIs.{IsTyped};
+
+    ghost view = { λ m. m.tree };
+
+    ghost invariant = { λ m. IsTyped m };
+}
+
+fn parse(alloc: Global, bytes: &[u8]) -> Result<Value, MetaErr>
+    ensures ok { IfOk result (λ v. IsUtf8 bytes.now × (read bytes.now ≡ Some (view v))) }
+    ensures nests { IfOk result (λ v. depth (view v) ≤ max_depth) }
+    ensures err { IfErr result (λ e. IsRefused bytes.now e) }
+{
+    match Value::from_slice(alloc, bytes) {
+        Ok(value) => Ok(value),
+        Err(e) => if e.is_memory() {
+            Err(MetaErr::Memory)
+        } else {
+            Err(no_json(alloc))
+        },
+    }
+}
+
+fn no_json(alloc: Global) -> MetaErr
+    ensures { result ≡ Bad [] NotJson }
+{
+    MetaErr::Bad {
+        path: Text::new(Vec::new(alloc)),
+        cause: MetaCause::NotJson,
+    }
+}
+
+fn refusal(fault: Fault) -> MetaErr
+    ensures { result ≡ Bad fault.path fault.cause }
+{
+    MetaErr::Bad {
+        path: fault.path,
+        cause: fault.cause,
+    }
+}
+
+// What the tree of well-formed metadata says.
+fn meta_of(alloc: Global, tree: Value) -> Result<Meta, AllocError>
+    requires sound { fault_of (view tree) ≡ None }
+    requires shallow { depth (view tree) ≤ max_depth }
+    ensures { IfOk result (λ m. m ≡ tree) }
+{
+    let typed = typed_view(alloc, &tree)?;
+    let index = match index_of(alloc, typed.snapshots.inner())? {
+        Indexed::Whole(index) => index,
+        Indexed::Double(_) => unreachable!(),
+    };
+    Ok(Meta { tree, typed, index })
+}
+
+// The metadata that a tree of the right form is, unless something is wrong among its snapshots.
+#[tactic(auto, unfolding(crate::specs::Fault::fault_of, crate::specs::Fault::snapshots_fault))]
+fn linked(alloc: Global, tree: Value) -> Result<Meta, MetaErr>
+    requires form { form_fault (view tree) ≡ None }
+    requires shallow { depth (view tree) ≤ max_depth }
+    ensures ok { IfOk result (λ m. m ≡ tree) }
+    ensures err { IfErr result (IsFaultOf (view tree)) }
+{
+    let typed = typed_view(alloc, &tree)?;
+    let index = match index_of(alloc, typed.snapshots.inner())? {
+        Indexed::Whole(index) => index,
+        Indexed::Double(place) => return Err(refusal(double_id(alloc, place)?)),
+    };
+    match links_fault(alloc, &index, typed.snapshots.inner(), &tree)? {
+        Some(fault) => Err(refusal(fault)),
+        None => Ok(Meta { tree, typed, index }),
+    }
+}
+
+fn as_str(text: &Text) -> &str
+    requires { IsUtf8 text.now }
+    ensures { result.now ≡ text.now }
+{
+    match std::str::from_utf8(text.inner().as_slice()) {
+        Ok(s) => s,
+        Err(_) => unreachable!(),
+    }
+}
+
+fn read(alloc: Global, bytes: &[u8]) -> Result<Meta, MetaErr>
+    ensures ok { IfOk result (λ m. Spells bytes.now (view m)) }
+    ensures err { IfErr result (λ e. IsRefused bytes.now e) }
+{
+    let tree = parse(alloc, bytes)?;
+    match form_fault(alloc, &tree)? {
+        Some(fault) => Err(refusal(fault)),
+        None => linked(alloc, tree),
+    }
+}
+
+/// The metadata that the bytes spell.
+pub fn read_meta(alloc: Global, bytes: &[u8]) -> Result<Meta, MetaErr>
+    // What is read is spelled so.
+    ensures ok { IfOk result (λ m. Spells bytes.now (view m)) }
+    // What is spelled so is read, unless memory runs out.
+    ensures taken { (d : Data) → Spells bytes.now d → IsReadAs d result }
+    // Which cause it is, where nothing is spelled.
+    ensures err { IfErr result (λ e. IsRefused bytes.now e) }
+{
+    read(alloc, bytes)
+}
+
+/// The written spelling: compact JSON with keys in byte order.
+pub fn write_meta(alloc: Global, meta: &Meta) -> Result<Bytes, AllocError>
+    ensures text { IfOk result (λ b. b ≡ compact_text (view meta.now)) }
+    ensures spells { IfOk result (λ b. Spells b (view meta.now)) }
+{
+    Ok(Bytes::new(meta.tree.to_vec(alloc)?))
+}
+
+impl Meta {
+    /// `table-uuid`, as it is written.
+    pub fn uuid(&self) -> &Text
+        ensures { result.now ≡ uuid_of (view self.now) }
+    {
+        &self.typed.uuid
+    }
+
+    /// `location`, as it is written.
+    pub fn location(&self) -> &Text
+        ensures text { result.now ≡ location_of (view self.now) }
+        ensures utf8 { IsUtf8 result.now }
+    {
+        &self.typed.location
+    }
+
+    /// `last-sequence-number`.
+    pub fn last_sequence(&self) -> i64
+        ensures { result ≡ last_sequence_of (view self.now) }
+    {
+        self.typed.last_sequence
+    }
+
+    /// `last-updated-ms`: milliseconds since 1970-01-01 UTC.
+    pub fn last_updated_ms(&self) -> u64
+        ensures { result ≡ updated_of (view self.now) }
+    {
+        self.typed.last_updated_ms
+    }
+
+    /// `current-snapshot-id`; absent, null and -1 stand for none.
+    pub fn current(&self) -> Option<i64>
+        ensures { result ≡ current_of (view self.now) }
+    {
+        self.typed.current
+    }
+
+    /// The snapshots, in the order of `snapshots`.
+    pub fn snapshots(&self) -> &SnapshotList
+        ensures { result.now ≡ snapshots_of (view self.now) }
+    {
+        &self.typed.snapshots
+    }
+
+    /// The refs, in byte order of their names. The branch `main` is among them also where only `current-snapshot-id`
+    /// gives it.
+    pub fn refs(&self) -> &RefList
+        ensures { result.now ≡ refs_of (view self.now) }
+    {
+        &self.typed.refs
+    }
+
+    /// Whether the table has a snapshot with this id.
+    pub fn has_snapshot(&self, id: i64) -> bool
+        ensures { result ≡ is_some (snapshot_with (snapshots_of (view self.now)) id) }
+    {
+        has(&self.index, self.typed.snapshots.inner(), id)
+    }
+
+    /// The snapshot with this id.
+    pub fn snapshot(&self, id: i64) -> Option<&Snapshot>
+        ensures { option_map (λ s. s.now) result ≡ snapshot_with (snapshots_of (view self.now)) id }
+    {
+        find(&self.index, self.typed.snapshots.inner(), id)
+    }
+
+    /// The ref with this name; `main` also where only `current-snapshot-id` gives it.
+    pub fn reference(&self, name: &Text) -> Option<&Ref>
+        ensures { option_map (λ r. r.now) result ≡ ref_with (refs_of (view self.now)) name.now }
+    {
+        ref_with(self.typed.refs.inner(), name)
+    }
+
+    /// The items of `statistics`, and then those of `partition-statistics`.
+    pub fn statistics(&self) -> &StatisticsList
+        ensures { result.now ≡ statistics_of (view self.now) }
+    {
+        &self.typed.statistics
+    }
+
+    /// `schemas`: an array of objects, which are read where they are needed.
+    pub fn schemas_tree(&self) -> &Value
+        ensures { Some (view result.now) ≡ get (codes "schemas") (view self.now) }
+    {
+        self.tree.get("schemas").unwrap()
+    }
+
+    /// `partition-specs`: an array of objects, which are read where they are needed.
+    pub fn specs_tree(&self) -> &Value
+        ensures { Some (view result.now) ≡ get (codes "partition-specs") (view self.now) }
+    {
+        self.tree.get("partition-specs").unwrap()
+    }
+
+    /// `current-schema-id`; it names a schema of `schemas`.
+    pub fn current_schema_id(&self) -> i32
+        ensures { result ≡ current_schema_id_of (view self.now) }
+    {
+        self.typed.current_schema_id
+    }
+
+    /// `default-spec-id`; it names a spec of `partition-specs`.
+    pub fn default_spec_id(&self) -> i32
+        ensures { result ≡ default_spec_id_of (view self.now) }
+    {
+        self.typed.default_spec_id
+    }
+
+    /// The whole tree.
+    pub fn tree(&self) -> &Value
+        ensures { result.now ≡ self.now }
+    {
+        &self.tree
+    }
+
+    /// The value of a property of the table.
+    pub fn property(&self, name: &str) -> Option<&Text>
+        ensures { option_map (λ t. t.now) result ≡ property_of name.now (view self.now) }
+    {
+        value_of(self.typed.properties.inner(), name)
+    }
+
+    /// The snapshot and its parents, as far as they are in the table; none where the id is unknown.
+    pub fn ancestors(&self, alloc: Global, id: i64) -> Result<IdList, AllocError>
+        ensures { IfOk result (λ ids. IsWalk (snapshots_of (view self.now)) (Some id) ids) }
+    {
+        let ids = walk::walk(alloc, &self.index, self.typed.snapshots.inner(), Some(id))?;
+        Ok(Items::new(ids))
+    }
+
+    /// Whether the snapshot `id` is the snapshot `of` or one of its ancestors.
+    pub fn ancestor_of(&self, id: i64, of: i64) -> bool
+        ensures { IsTrue result ↔ IsAncestor (snapshots_of (view self.now)) id of }
+    {
+        walk::on_walk(&self.index, self.typed.snapshots.inner(), id, Some(of))
+    }
+
+    /// The metadata with the ref `name` at the snapshot `id`, at the moment `ms` or, where that is later, at the
+    /// metadata's own. Where there is no such ref it is made, as a branch. `main` moves the current snapshot too, and
+    /// adds to the snapshot log. Every other field stays.
+    pub fn with_ref(&self, alloc: Global, name: &Text, id: i64, ms: u64) -> Result<Meta, EditErr>
+        requires utf8 { IsUtf8 name.now }
+        requires moment { ms < 2 ^ 63 }
+        ensures ok { IfOk result (λ m. view m ≡ with_ref name.now id ms (view self.now)) }
+        ensures stays { IfOk result (λ m. (key : List ℕ) → key ≢ codes "refs" → key ≢ codes "current-snapshot-id"
+            → key ≢ codes "snapshot-log" → get key (view m) ≡ get key (view self.now)) }
+        ensures known { OnOk result (IsSome (snapshot_with (snapshots_of (view self.now)) id)) }
+        ensures refused { snapshot_with (snapshots_of (view self.now)) id ≡ None → result ≡ Err (UnknownSnapshot id) }
+        ensures unknown { IfErr result (λ e. IsUnknown (snapshot_with (snapshots_of (view self.now)) id) id e) }
+    {
+        if !has(&self.index, self.typed.snapshots.inner(), id) {
+            return Err(EditErr::UnknownSnapshot { id });
+        }
+        let tree = edits::with_ref(alloc, &self.tree, as_str(name), id, ms)?;
+        Ok(meta_of(alloc, tree)?)
+    }
+
+    fn version_limit(&self) -> Option<u64>
+        ensures { result ≡ version_limit (view self.now) }
+    {
+        match self.property("write.metadata.previous-versions-max") {
+            Some(text) => edits::decimal(text.inner().as_slice()),
+            None => Some(100),
+        }
+    }
+
+    /// Whether the property `write.metadata.previous-versions-max` is absent or of its form: decimal digits up to
+    /// 2^63 - 1.
+    pub fn has_version_limit(&self) -> bool
+        ensures { IsTrue result ↔ HasVersionLimit (view self.now) }
+    {
+        self.version_limit().is_some()
+    }
+
+    /// The metadata of the next version: updated at `ms` or, where that is later, at its own moment. The text
+    /// `previous` of the metadata file before it goes to the metadata log, of which the last items stay, as many as
+    /// `write.metadata.previous-versions-max` says (100 where it is absent), at least 1. Every other field stays.
+    pub fn next_version(&self, alloc: Global, previous: &Text, ms: u64) -> Result<Meta, AllocError>
+        requires utf8 { IsUtf8 previous.now }
+        requires moment { ms < 2 ^ 63 }
+        requires limit { HasVersionLimit (view self.now) }
+        ensures ok { IfOk result (λ m. view m ≡ next_version previous.now ms (view self.now)) }
+        ensures stays { IfOk result (λ m. (key : List ℕ) → key ≢ codes "last-updated-ms"
+            → key ≢ codes "metadata-log" → get key (view m) ≡ get key (view self.now)) }
+    {
+        let most = self.version_limit().unwrap_or(100).max(1);
+        let tree = edits::next_version(alloc, &self.tree, as_str(previous), ms, most)?;
+        meta_of(alloc, tree)
+    }
+}
+
+fn ref_with<'r>(refs: &'r [Ref], name: &Text) -> Option<&'r Ref>
+    ensures { option_map (λ r. r.now) result ≡ ref_with refs.now name.now }
+{
+    for reference in refs {
+        if reference.name.inner().as_slice() == name.inner().as_slice() {
+            return Some(reference);
+        }
+    }
+    None
+}
+
+fn value_of<'p>(properties: &'p [Property], name: &str) -> Option<&'p Text>
+    ensures { option_map (λ t. t.now) result ≡ value_in name.now properties.now }
+{
+    for property in properties {
+        if name.as_bytes() == property.name.inner().as_slice() {
+            return Some(&property.value);
+        }
+    }
+    None
+}

@@ -1,0 +1,4 @@
+pub mod StageLaws
+pub mod CallLaws
+pub mod Narrow
+pub mod PublishLaws

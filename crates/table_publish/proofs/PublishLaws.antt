@@ -1,0 +1,111 @@
+-- Laws of a publish: its pieces one after another.
+use Rattle.std.proofs.Common.{◌≡◌, ◌⊎◌, inl, inr, List, [], ◌∷◌, ◌++◌, true, false, Ok, Err, Result, sym, ap, subst}
+use Rattle.ice_store.specs.Places.{Parts}
+use Rattle.ice_store.specs.declared.history.Past.{Past}
+use Rattle.ice_store.specs.declared.history.Step.{Step}
+use Rattle.ice_store.specs.declared.history.Step.TheVariants.{Create, Rename, Remove, SyncNames}
+use Rattle.ice_store.specs.declared.store.StoreErr.{StoreErr}
+use Rattle.ice_store.specs.declared.store.StoreErr.TheVariants.{Failed, Memory}
+use Rattle.table_publish.specs.Stages.{Creating, AtRest, Exactly, Begun, BegunFill, Anything, Then, Partly, Reaching, draft_plan}
+use Rattle.table_publish.specs.Leaves.{UnwrittenLeaves, FinishLeaves, PublishLeaves}
+use Rattle.table_history.proofs.Running.{ran_then, ran_turned}
+use Rattle.table_publish.specs.Logs.{LeftBy, left_by_move, left_by_drop, fault_from, unknown_from}
+use Rattle.table_publish.specs.declared.steps.Call.{Call}
+use Rattle.table_publish.specs.declared.steps.Call.TheVariants.{OnFile, OnNames}
+use Rattle.table_publish.specs.declared.publish.PublishErr.{PublishErr}
+use Rattle.table_publish.specs.declared.publish.PublishErr.TheVariants.{NameTaken, Contended, Unknown, Fault, NoMemory}
+use Rattle.table_publish.proofs.CallLaws as calls
+use Rattle.table_publish.proofs.CallLaws.{Work, RR, K0, KD, KT, KL}
+
+-- The log.
+
+pub moved_left : (call : Call) (cause : StoreErr) (draft target : Parts) (old new : List Parts) → new ≡ left_by_move call cause draft target old → LeftBy draft target (Err (unknown_from cause)) old new
+moved_left OnFile Failed draft target old new is = inr is
+moved_left OnFile Memory draft target old new is = inr is
+moved_left OnNames Failed draft target old new is = inl is
+moved_left OnNames Memory draft target old new is = inr is
+
+pub dropped_left : (call : Call) (cause : StoreErr) (draft target : Parts) (old new : List Parts) → new ≡ left_by_drop call draft old → LeftBy draft target (Err (fault_from cause call)) old new
+dropped_left OnFile Failed draft target old new is = is
+dropped_left OnFile Memory draft target old new is = inr is
+dropped_left OnNames Failed draft target old new is = inl is
+dropped_left OnNames Memory draft target old new is = inl is
+
+module _ (x : Work) where
+  abbrev pub move_plan : List Step
+  move_plan = Rename x.draft x.target ∷ SyncNames ∷ []
+
+  abbrev pub drop_plan : List Step
+  drop_plan = Remove x.draft ∷ SyncNames ∷ []
+
+  turned : (M N : List Step → Type 0) (old new : Past) → ((l : List Step) → M l → N l) → RR x M Anything old new → RR x N Anything old new
+  turned M N old new turn run = ran_turned x.number x.Good x.Reached x.allows M N Anything Anything old new run turn (λ h. h)
+
+  -- The draft.
+
+  abbrev pub Unwrote : PublishErr → Past → Past → Type 0
+  Unwrote = UnwrittenLeaves x.number x.Good x.Reached x.allows x.draft x.bytes
+
+  partly_unwritten : (call : Call) (cause : StoreErr) (old new : Past) → RR x (Partly x.draft x.bytes) Anything old new → Unwrote (fault_from cause call) old new
+  partly_unwritten call Failed old new run = run
+  partly_unwritten call Memory old new run = run
+
+  pub unmade : (call : Call) (cause : StoreErr) (old new : Past) → RR x (Begun (Create x.draft ∷ [])) Anything old new → Unwrote (fault_from cause call) old new
+  unmade call cause old new run = partly_unwritten call cause old new (turned (Begun (Create x.draft ∷ [])) (Partly x.draft x.bytes) old new (λ l b. inl b) run)
+
+  pub unfilled : (call : Call) (cause : StoreErr) (old mid new : Past) → RR x (Exactly (Create x.draft ∷ [])) (KD x Creating false []) old mid → RR x (BegunFill x.draft x.bytes) Anything mid new → Unwrote (fault_from cause call) old new
+  unfilled call cause old mid new a b = partly_unwritten call cause old new (turned (Then (Create x.draft ∷ []) (BegunFill x.draft x.bytes)) (Partly x.draft x.bytes) old new (λ l t. inr (inl t))
+      (calls.join_then x old mid new (Create x.draft ∷ []) (BegunFill x.draft x.bytes) (KD x Creating false []) a b))
+
+  -- The rename.
+
+  abbrev pub Finish : Result (Unit {0}) PublishErr → Past → Past → Type 0
+  Finish = FinishLeaves x.number x.Good x.Reached x.allows x.base x.text x.target x.draft x.bytes
+
+  pub unmoved : (cause : StoreErr) (old new : Past) → RR x (Begun move_plan) Anything old new → Finish (Err (unknown_from cause)) old new
+  unmoved Failed old new run = run
+  unmoved Memory old new run = turned (Begun move_plan) (λ l. Begun move_plan l ⊎ Begun drop_plan l) old new (λ l b. inl b) run
+
+  behind_none : (P : List Step → Type 0) (l k : List Step) → l ≡ [] → P k → P (l ++ k)
+  behind_none P l k none here = subst (λ z. P (z ++ k)) (sym none) here
+
+  pub undropped : (call : Call) (cause : StoreErr) (old mid new : Past) → RR x (Exactly []) (KT x) old mid → RR x (Begun drop_plan) Anything mid new → Finish (Err (fault_from cause call)) old new
+  undropped call cause old mid new a b = by_cause cause (ran_then x.number x.Good x.Reached x.allows (Exactly []) (Begun drop_plan) (Begun drop_plan) (KT x) Anything (behind_none (Begun drop_plan)) old mid new a b)
+    where
+      by_cause : (cause : StoreErr) → RR x (Begun drop_plan) Anything old new → Finish (Err (fault_from cause call)) old new
+      by_cause Failed run = run
+      by_cause Memory run = turned (Begun drop_plan) (λ l. Begun move_plan l ⊎ Begun drop_plan l) old new (λ l b. inr b) run
+
+  -- The whole.
+
+  abbrev pub Publish : Result (Unit {0}) PublishErr → Past → Past → Type 0
+  Publish = PublishLeaves x.number x.Good x.Reached x.allows x.base x.text x.target x.draft x.bytes
+
+  pub unbegun : (K : Past → Type 0) (old new : Past) → RR x (Exactly []) K old new → Publish (Err NoMemory) old new
+  unbegun K old new run = ran_turned x.number x.Good x.Reached x.allows (Exactly []) (λ l. Partly x.draft x.bytes l ⊎ Reaching x.draft x.bytes x.target l) K Anything old new run
+      (λ l e. inl (inl (record { rest = Create x.draft ∷ []; is = ap (λ (z : List Step). z ++ Create x.draft ∷ []) (sym e) }))) (λ h. tt)
+
+  pub unwritten : (e : PublishErr) (old new : Past) → Unwrote e old new → Publish (Err e) old new
+  unwritten NameTaken old new run = run
+  unwritten Contended old new run = absurd run
+  unwritten Unknown old new run = absurd run
+  unwritten (Fault call) old new run = run
+  unwritten NoMemory old new run = turned (Partly x.draft x.bytes) (λ l. Partly x.draft x.bytes l ⊎ Reaching x.draft x.bytes x.target l) old new (λ l p. inl p) run
+
+  module _ (old mid new : Past) (a : RR x (Exactly (draft_plan x.draft x.bytes)) (KD x AtRest true x.bytes) old mid) where
+    joined : (P : List Step → Type 0) → RR x P Anything mid new → RR x (Then (draft_plan x.draft x.bytes) P) Anything old new
+    joined P b = calls.join_then x old mid new (draft_plan x.draft x.bytes) P (KD x AtRest true x.bytes) a b
+
+    pub finished : (r : Result (Unit {0}) PublishErr) → Finish r mid new → Publish r old new
+    finished (Ok u) b = calls.join_published x old mid new (draft_plan x.draft x.bytes) move_plan (KD x AtRest true x.bytes) a b
+    finished (Err NameTaken) b = absurd b
+    finished (Err Contended) b = calls.join_exact x old mid new (draft_plan x.draft x.bytes) drop_plan (KD x AtRest true x.bytes) (KL x) a b
+    finished (Err Unknown) b = joined (Begun move_plan) b
+    finished (Err (Fault call)) b = turned (Then (draft_plan x.draft x.bytes) (Begun drop_plan)) (Partly x.draft x.bytes) old new (λ l t. inr (inr t)) (joined (Begun drop_plan) b)
+    finished (Err NoMemory) b = turned (Then (draft_plan x.draft x.bytes) (λ l. Begun move_plan l ⊎ Begun drop_plan l)) (λ l. Partly x.draft x.bytes l ⊎ Reaching x.draft x.bytes x.target l) old new one (joined (λ l. Begun move_plan l ⊎ Begun drop_plan l) b)
+      where
+        one : (l : List Step) → Then (draft_plan x.draft x.bytes) (λ l. Begun move_plan l ⊎ Begun drop_plan l) l → Partly x.draft x.bytes l ⊎ Reaching x.draft x.bytes x.target l
+        one l t = elim t.then [
+          | inl move ↦ inr (record { rest = t.rest; is = t.is; then = move })
+          | inr remove ↦ inl (inr (inr (record { rest = t.rest; is = t.is; then = remove })))
+        ]

@@ -1,0 +1,12 @@
+mod ChainLaws
+mod StepLaws
+mod VerdictLaws
+mod EndLaws
+mod ListLaws
+mod WordLaws
+mod StopLaws
+mod VersionLaws
+mod SuccessorLaws
+mod RunLaws
+mod WordSteps
+mod TaskSteps

@@ -1,0 +1,139 @@
+-- Each version that a run tells of is a successor of the one before it.
+use Rattle.std.proofs.Common.{◌≡◌, inl, inr, ℕ, List, [], ◌∷◌, ◌++◌, Option, Some, None, Ok, Err, sym, ap, ◌∙◌, subst, append-nil, append_assoc}
+use Rattle.ice_store.specs.Given.{Gives}
+use Rattle.ice_store.specs.Places.{Parts}
+use Rattle.ice_store.specs.Others.{WhereTold}
+use Rattle.ice_store.specs.History.{later}
+use Rattle.ice_store.proofs.HistoryLaws.{later-later}
+use Rattle.ice_store.proofs.OthersLaws.{later-nil}
+use Rattle.ice_store.specs.Since.{Since}
+use Rattle.ice_store.proofs.SinceLaws.{since_turned, since_then, since_start}
+use Rattle.ice_store.specs.declared.history.Event.{Event}
+use Rattle.ice_store.specs.declared.history.Past.{Past}
+use Rattle.table_publish.specs.Stages.{Anything}
+use Rattle.commit_protocol.specs.Written.{commits}
+use Rattle.commit_protocol.specs.declared.errors.Committed.TheVariants.{Same, Published}
+use Rattle.run_answers.specs.declared.status.Status.{Status}
+use Rattle.run_answers.specs.declared.status.Status.TheVariants.{Done}
+use Rattle.upkeep_top.specs.Points.{Point}
+use Rattle.upkeep_top.specs.Chains.{Leads}
+use Rattle.upkeep_top.specs.Promises.{HasSucceeded}
+use Rattle.upkeep_top.specs.Runs.{IsDone, Ended, RunsBy, AskOf, PublishedBy, EachSucceeds}
+use Rattle.upkeep_top.specs.Statements.{Ends, Did}
+use Rattle.upkeep_top.specs.Verdicts.{End}
+use Rattle.upkeep_top.specs.Words.{AreOf}
+use Rattle.upkeep_top.specs.declared.task.Task.{Task}
+use Rattle.upkeep_top.proofs.StopLaws.{front_of}
+
+abbrev pub Later : Past → Past → Type 0
+Later old now = (events : List Event) × (now ≡ later old events)
+
+later_none : (old : Past) → Later old old
+later_none old = ([], sym (later-nil old))
+
+later_then : (old mid new : Past) → Later old mid → Later mid new → Later old new
+later_then old mid new a b = (a.0 ++ b.0, b.1 ∙ ap (λ (p : Past). later p b.0) a.1 ∙ later-later old a.0 b.0)
+
+told_any : (o : Option Past) → WhereTold o Anything
+told_any None = tt
+told_any (Some past) = tt
+
+module _ (words : List (List ℕ)) where
+  one_right : (v : ℕ) (old mid new : Past) → PublishedBy words v old mid → Later mid new → PublishedBy words v old new
+  one_right v old mid new r e = record {
+    table = r.table;
+    asked = r.asked;
+    task = r.task;
+    of_table = r.of_table;
+    now = r.now;
+    begun = r.begun;
+    ended = r.ended;
+    earlier = r.earlier;
+    begun_is = r.begun_is;
+    rest = r.rest ++ e.0;
+    rest_is = e.1 ∙ ap (λ (p : Past). later p e.0) r.rest_is ∙ later-later r.ended r.rest e.0;
+    succeeds = r.succeeds;
+  }
+
+  one_left : (v : ℕ) (old mid new : Past) → Later old mid → PublishedBy words v mid new → PublishedBy words v old new
+  one_left v old mid new e r = record {
+    table = r.table;
+    asked = r.asked;
+    task = r.task;
+    of_table = r.of_table;
+    now = r.now;
+    begun = r.begun;
+    ended = r.ended;
+    earlier = e.0 ++ r.earlier;
+    begun_is = r.begun_is ∙ ap (λ (p : Past). later p r.earlier) e.1 ∙ later-later old e.0 r.earlier;
+    rest = r.rest;
+    rest_is = r.rest_is;
+    succeeds = r.succeeds;
+  }
+
+  each_right : (vs : List ℕ) (old mid new : Past) → EachSucceeds words vs old mid → Later mid new → EachSucceeds words vs old new
+  each_right [] old mid new h e = tt
+  each_right (v ∷ vs) old mid new h e = (one_right v old mid new h.0 e, each_right vs old mid new h.1 e)
+
+  each_left : (vs : List ℕ) (old mid new : Past) → Later old mid → EachSucceeds words vs mid new → EachSucceeds words vs old new
+  each_left [] old mid new e h = tt
+  each_left (v ∷ vs) old mid new e h = (one_left v old mid new e h.0, each_left vs old mid new e h.1)
+
+  each_append : (vs ws : List ℕ) (old new : Past) → EachSucceeds words vs old new → EachSucceeds words ws old new → EachSucceeds words (vs ++ ws) old new
+  each_append [] ws old new a b = b
+  each_append (v ∷ vs) ws old new a b = (a.0, each_append vs ws old new a.1 b)
+
+  -- the versions that were added, each a successor
+  pub record Added (before after : List ℕ) (old now : Past) : Type 0 where
+    pub then : Later old now
+    pub versions : List ℕ
+    pub is : after ≡ before ++ versions
+    pub each : EachSucceeds words versions old now
+
+  added_then : (before mid after : List ℕ) (old between new : Past) → Added before mid old between → Added mid after between new → Added before after old new
+  added_then before mid after old between new a b = record {
+    then = later_then old between new a.then b.then;
+    versions = a.versions ++ b.versions;
+    is = b.is ∙ ap (λ (l : List ℕ). l ++ b.versions) a.is ∙ append_assoc before a.versions b.versions;
+    each = each_append a.versions b.versions old new (each_right a.versions old between new a.each b.then) (each_left b.versions old between new a.then b.each);
+  }
+
+  module _ (table : Parts) (asked : AskOf words table) where
+    by_end : (t : Task) (now : ℕ) (end : End) (before after : List ℕ) (old new : Past) → t.table ≡ table → Later old new → after ≡ commits end before → HasSucceeded t now end old new → Added before after old new
+    by_end t now (Ok (Same v)) before after old new of_table then is done = record { then = then; versions = []; is = is ∙ sym (append-nil before); each = tt }
+    by_end t now (Ok (Published v)) before after old new of_table then is done = record {
+      then = then;
+      versions = v ∷ [];
+      is = is;
+      each = (record { table = table; asked = asked; task = t; of_table = of_table; now = now; begun = old; ended = new; earlier = []; begun_is = sym (later-nil old); rest = []; rest_is = sym (later-nil new); succeeds = done }, tt);
+    }
+    by_end t now (Err e) before after old new of_table then is done = record { then = then; versions = []; is = is ∙ sym (append-nil before); each = tt }
+
+    ends_added : (t : Task) (status : Status) (p q : Point) → t.table ≡ table → Ends t status p q → Since p.past q.past (Added p.committed q.committed)
+    ends_added t status p q of_table e = since_turned p.past q.past (Did t e.now (Gives p.identifiers q.identifiers) e.end status p.output q.output) (Added p.committed q.committed) e.did
+        (λ old now d. by_end t e.now e.end p.committed q.committed old now of_table (d.safe.events, d.safe.is) e.committed d.succeeded)
+
+    none_added : (committed : List ℕ) (old : Past) → Added committed committed old old
+    none_added committed old = record { then = later_none old; versions = []; is = sym (append-nil committed); each = tt }
+
+    leads_added : (ts : List Task) (p q : Point) → AreOf table ts → Leads IsDone ts p q → Since p.past q.past (Added p.committed q.committed)
+    leads_added [] p q of_table h =
+        subst (λ (x : Point). Since p.past x.past (Added p.committed x.committed)) (sym h)
+        (since_start p.past Anything (Added p.committed p.committed) (told_any p.past) (λ old any. none_added p.committed old))
+    leads_added (t ∷ ts) p q of_table h =
+        since_then p.past h.0.past q.past (Added p.committed h.0.committed) (Added h.0.committed q.committed) (Added p.committed q.committed)
+        (ends_added t Done p h.0 of_table.0 h.1) (leads_added ts h.0 q of_table.1 h.2) (added_then p.committed h.0.committed q.committed)
+
+    ended_added : (tasks : List Task) (status : Status) (p q : Point) → AreOf table tasks → Ended tasks status p q → Since p.past q.past (Added p.committed q.committed)
+    ended_added tasks status p q of_table e =
+        let parts = front_of table e.before e.task e.after (subst (λ (l : List Task). AreOf table l) e.is of_table) in
+        since_then p.past e.from.past q.past (Added p.committed e.from.committed) (Added e.from.committed q.committed) (Added p.committed q.committed)
+        (leads_added e.before p e.from parts.0 e.led) (ends_added e.task status e.from q parts.1 e.ends) (added_then p.committed e.from.committed q.committed)
+
+  pub each_succeeds : (status : Status) (p q : Point) → p.committed ≡ [] → RunsBy words status p q → Since p.past q.past (EachSucceeds words q.committed)
+  each_succeeds status p q empty (inl r) =
+      subst (λ (x : Point). Since p.past x.past (EachSucceeds words x.committed)) (sym r.1)
+      (since_start p.past Anything (EachSucceeds words p.committed) (told_any p.past) (λ old any. subst (λ (vs : List ℕ). EachSucceeds words vs old old) (sym empty) tt))
+  each_succeeds status p q empty (inr r) =
+      since_turned p.past q.past (Added p.committed q.committed) (EachSucceeds words q.committed) (ended_added r.table (r.tasks, r.ask) r.tasks status p q r.ask.of_table r.ended)
+      (λ old now a. subst (λ (vs : List ℕ). EachSucceeds words vs old now) (sym (a.is ∙ ap (λ (l : List ℕ). l ++ a.versions) empty)) a.each)

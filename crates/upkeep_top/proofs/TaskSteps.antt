@@ -1,0 +1,108 @@
+-- Statements are run one by one: what the loop over them keeps.
+use Rattle.std.proofs.Common.{◌≡◌, inl, inr, ℕ, ◌+◌, ◌<◌, ◌≤◌, true, false, List, [], ◌∷◌, ◌++◌, length, take, drop, get_or, Option, suc, refl, sym, ap, ◌∙◌, subst, arith}
+use Rattle.std.proofs.Math.Seq.{split_at, take-suc, take-length}
+use Rattle.ice_store.specs.History.{replay}
+use Rattle.ice_store.specs.Others.{WhereTold}
+use Rattle.ice_store.specs.Places.{Parts}
+use Rattle.ice_store.specs.declared.history.Past.{Past}
+use Rattle.run_answers.specs.Messages.{is_done}
+use Rattle.run_answers.specs.declared.status.Status.{Status}
+use Rattle.run_answers.specs.declared.status.Status.TheVariants as statuses
+use Rattle.run_answers.specs.declared.status.Status.TheVariants.{Done}
+use Rattle.upkeep_top.specs.Chains.{Leads}
+use Rattle.upkeep_top.specs.Points.{Point, point}
+use Rattle.upkeep_top.specs.Runs.{Ended, IsDone, IsRefusal, Runs}
+use Rattle.upkeep_top.specs.Statements.{Ends}
+use Rattle.upkeep_top.specs.Words.{Ask}
+use Rattle.upkeep_top.specs.declared.task.Task.{Task}
+use Rattle.upkeep_top.proofs.ChainLaws.{leads_on, last_of}
+use Rattle.upkeep_top.proofs.VersionLaws.{done_rests}
+
+-- Only Done is done.
+
+pub done_by : (status : Status) → is_done status ≡ true → status ≡ Done
+done_by Done e = refl
+done_by (statuses.BadStatement word at) e = absurd (cc (e))
+done_by (statuses.BadArgument word name) e = absurd (cc (e))
+done_by (statuses.UnknownSnapshot id) e = absurd (cc (e))
+done_by (statuses.UnknownRef name) e = absurd (cc (e))
+done_by (statuses.NotAncestor id of) e = absurd (cc (e))
+done_by (statuses.StillReferenced id name) e = absurd (cc (e))
+done_by statuses.GcDisabled e = absurd (cc (e))
+done_by (statuses.TooRecent older_than limit) e = absurd (cc (e))
+done_by (statuses.NoTable place) e = absurd (cc (e))
+done_by (statuses.LocationDiffers table location) e = absurd (cc (e))
+done_by (statuses.Missing place) e = absurd (cc (e))
+done_by (statuses.Damaged place at) e = absurd (cc (e))
+done_by (statuses.Unsupported place what) e = absurd (cc (e))
+done_by (statuses.OutsidePrefix path) e = absurd (cc (e))
+done_by (statuses.UnreadableDelete place) e = absurd (cc (e))
+done_by statuses.SamePrefix e = absurd (cc (e))
+done_by (statuses.UnknownVersion name) e = absurd (cc (e))
+done_by (statuses.Conflict place other) e = absurd (cc (e))
+done_by (statuses.Contended version) e = absurd (cc (e))
+done_by (statuses.StoreFault place) e = absurd (cc (e))
+done_by (statuses.CommitUnknown version) e = absurd (cc (e))
+done_by statuses.OutFault e = absurd (cc (e))
+done_by statuses.OutOfMemory e = absurd (cc (e))
+done_by (statuses.NameTaken place) e = absurd (cc (e))
+
+pub not_done_by : (status : Status) → is_done status ≡ false → status ≡ Done → ⊥
+not_done_by status e d = absurd (cc (e, ap is_done d))
+
+pub rests_when : (t : Task) (status : Status) (p q : Point) → Ends t status p q → status ≡ Done → WhereTold q.past (λ past. (replay past).pending ≡ [])
+rests_when t status p q e d = done_rests t p q (subst (λ (s : Status). Ends t s p q) d e)
+
+-- Behind the statements that are done.
+
+module _ (tasks : List Task) (i : ℕ) (within : i < length tasks) (t : Task) (is : t ≡ get_or tasks i t) (status : Status) (o p q : Point) (led : Leads IsDone (take i tasks) o p) (ends : Ends t status p q) where
+  pub stopped : (status ≡ Done → ⊥) → Ended tasks status o q
+  stopped not = record {
+    before = take i tasks;
+    task = t;
+    after = drop (suc i) tasks;
+    is = split_at tasks i t within ∙ ap (λ (x : Task). take i tasks ++ x ∷ drop (suc i) tasks) (sym is);
+    from = p;
+    led = led;
+    ends = ends;
+    last = λ d. absurd (not d);
+  }
+
+  pub led_more : status ≡ Done → Leads IsDone (take (i + 1) tasks) o q
+  led_more d =
+      let next : take (i + 1) tasks ≡ take i tasks ++ t ∷ [] = ap (λ (k : ℕ). take k tasks) (let f : i + 1 ≡ suc i = omega arith in f) ∙ take-suc tasks i t within ∙ ap (λ (x : Task). take i tasks ++ x ∷ []) (sym is) in
+      subst (λ (l : List Task). Leads IsDone l o q) (sym next) (leads_on IsDone (take i tasks) t o p q led (subst (λ (s : Status). Ends t s p q) d ends))
+
+-- all of them
+pub all_done : (tasks : List Task) (first : Task) (more : List Task) → tasks ≡ first ∷ more → (i : ℕ) → length tasks ≤ i → i ≤ length tasks → (o q : Point) → Leads IsDone (take i tasks) o q → Ended tasks Done o q
+all_done tasks first more is i past_end within o q led =
+    let all : take i tasks ≡ tasks = ap (λ (k : ℕ). take k tasks) (let f : i ≡ length tasks = omega (arith, past_end, within) in f) ∙ take-length tasks in
+    let l = last_of IsDone first more o q (subst (λ (ts : List Task). Leads IsDone ts o q) (all ∙ is) led) in
+    record { before = l.before; task = l.last; after = []; is = is ∙ l.is; from = l.from; led = l.leads; ends = l.goes; last = λ d. refl }
+
+-- Moments whose values agree.
+
+pub same_points : {past past' : Option Past} {faults faults' : ℕ} {halted halted' : Option ℕ} {moments moments' : Option (List ℕ)} {identifiers identifiers' : Option (List ℕ)} {output output' : Option (List ℕ)} {output_faults output_faults' : ℕ} {committed committed' : List ℕ} {left left' : List Parts}
+    → past ≡ past' → faults ≡ faults' → halted ≡ halted' → moments ≡ moments' → identifiers ≡ identifiers' → output ≡ output' → output_faults ≡ output_faults' → committed ≡ committed' → left ≡ left'
+    → point past faults halted moments identifiers output output_faults committed left ≡ point past' faults' halted' moments' identifiers' output' output_faults' committed' left'
+same_points {past = p} {past' = p'} {faults = f} {faults' = f'} {halted = h} {halted' = h'} {moments = m} {moments' = m'} {identifiers = i} {identifiers' = i'} {output = o} {output' = o'} {output_faults = e} {output_faults' = e'} {committed = c} {committed' = c'} {left = l} {left' = l'} a b d g j k n q r =
+    ap (λ (x : Option Past). point x f h m i o e c l) a
+    ∙ ap (λ (x : ℕ). point p' x h m i o e c l) b
+    ∙ ap (λ (x : Option ℕ). point p' f' x m i o e c l) d
+    ∙ ap (λ (x : Option (List ℕ)). point p' f' h' x i o e c l) g
+    ∙ ap (λ (x : Option (List ℕ)). point p' f' h' m' x o e c l) j
+    ∙ ap (λ (x : Option (List ℕ)). point p' f' h' m' i' x e c l) k
+    ∙ ap (λ (x : ℕ). point p' f' h' m' i' o' x c l) n
+    ∙ ap (λ (x : List ℕ). point p' f' h' m' i' o' e' x l) q
+    ∙ ap (λ (x : List Parts). point p' f' h' m' i' o' e' c' x) r
+
+pub asked_run : (words : List (List ℕ)) (table : Parts) (tasks given : List Task) → given ≡ tasks → Ask words table tasks → (status status' : Status) → status ≡ status' → (p p' q q' : Point) → p' ≡ p → q ≡ q'
+    → ((first : Task) (more : List Task) → given ≡ first ∷ more → Ended given status' p' q') → Runs words status p q
+asked_run words table tasks given same ask status status' status_is p p' q q' p_is q_is ended =
+    let here : Ended tasks status' p' q' = subst (λ (ts : List Task). Ended ts status' p' q') same (ended ask.first ask.more (same ∙ ask.is)) in
+    let begun : Ended tasks status' p q' = subst (λ (x : Point). Ended tasks status' x q') p_is here in
+    let over : Ended tasks status' p q = subst (λ (x : Point). Ended tasks status' p x) (sym q_is) begun in
+    record { how = inr (record { table = table; tasks = tasks; ask = ask; ended = subst (λ (s : Status). Ended tasks s p q) (sym status_is) over }) }
+
+pub refused_run : (words : List (List ℕ)) (status status' : Status) → status ≡ status' → IsRefusal words status' → (p q : Point) → q ≡ p → Runs words status p q
+refused_run words status status' status_is refusal p q same = record { how = inl (subst (λ (s : Status). IsRefusal words s) (sym status_is) refusal, same) }

@@ -1,0 +1,76 @@
+use Rattle.std.proofs.Common.{inl, inr, refl}
+use Rattle.run_answers.specs.declared.status.Status.TheVariants.{Done, NoTable, LocationDiffers, Missing, Damaged, Unsupported, UnknownSnapshot, UnknownRef, NotAncestor, NameTaken, Contended}
+use Rattle.upkeep_top.proofs.RunLaws as laws
+use Rattle.upkeep_top.proofs.top_call.run.Goals as goal
+
+pub returns-clause-refused : goal.returns-clause-refused
+returns-clause-refused g c = λ status refuses. laws.refused _ _ _ _ c.run_words-outcome.ensures.told status refuses
+
+pub returns-clause-done : goal.returns-clause-done
+returns-clause-done g c = laws.comes _ _ _ _ c.run_words-outcome.ensures.told Done refl
+
+pub returns-clause-no_table : goal.returns-clause-no_table
+returns-clause-no_table g c = λ place. laws.comes _ _ _ _ c.run_words-outcome.ensures.told (NoTable place) refl
+
+pub returns-clause-location_differs : goal.returns-clause-location_differs
+returns-clause-location_differs g c = λ table location. laws.comes _ _ _ _ c.run_words-outcome.ensures.told (LocationDiffers table location) refl
+
+pub returns-clause-missing : goal.returns-clause-missing
+returns-clause-missing g c = λ place. laws.comes _ _ _ _ c.run_words-outcome.ensures.told (Missing place) refl
+
+pub returns-clause-damaged : goal.returns-clause-damaged
+returns-clause-damaged g c = λ place at. laws.comes _ _ _ _ c.run_words-outcome.ensures.told (Damaged place at) refl
+
+pub returns-clause-unsupported : goal.returns-clause-unsupported
+returns-clause-unsupported g c = λ place what. laws.comes _ _ _ _ c.run_words-outcome.ensures.told (Unsupported place what) refl
+
+pub returns-clause-unknown_snapshot : goal.returns-clause-unknown_snapshot
+returns-clause-unknown_snapshot g c = λ id. laws.comes _ _ _ _ c.run_words-outcome.ensures.told (UnknownSnapshot id) refl
+
+pub returns-clause-unknown_ref : goal.returns-clause-unknown_ref
+returns-clause-unknown_ref g c = λ name. laws.comes _ _ _ _ c.run_words-outcome.ensures.told (UnknownRef name) refl
+
+pub returns-clause-not_ancestor : goal.returns-clause-not_ancestor
+returns-clause-not_ancestor g c = λ id of. laws.comes _ _ _ _ c.run_words-outcome.ensures.told (NotAncestor id of) refl
+
+pub returns-clause-name_taken : goal.returns-clause-name_taken
+returns-clause-name_taken g c = λ place. laws.comes _ _ _ _ c.run_words-outcome.ensures.told (NameTaken place) refl
+
+pub returns-clause-contended : goal.returns-clause-contended
+returns-clause-contended g c = λ version. laws.comes _ _ _ _ c.run_words-outcome.ensures.told (Contended version) refl
+
+pub returns-clause-complete : goal.returns-clause-complete
+returns-clause-complete g c = laws.complete _ _ _ _ c.run_words-outcome.ensures.told
+
+pub returns-clause-store_fault : goal.returns-clause-store_fault
+returns-clause-store_fault g c = λ place is. laws.store_rose _ _ _ _ c.run_words-outcome.ensures.told (inl (place, is))
+
+pub returns-clause-unknown : goal.returns-clause-unknown
+returns-clause-unknown g c = λ version is. laws.store_rose _ _ _ _ c.run_words-outcome.ensures.told (inr (version, is))
+
+pub returns-clause-out_fault : goal.returns-clause-out_fault
+returns-clause-out_fault g c = λ is. laws.output_rose _ _ _ _ c.run_words-outcome.ensures.told is
+
+pub returns-clause-safe : goal.returns-clause-safe
+returns-clause-safe g c = laws.safe _ _ _ _ c.run_words-outcome.ensures.told
+
+pub returns-clause-prefix : goal.returns-clause-prefix
+returns-clause-prefix g c = laws.keeps_prefix _ _ _ _ c.run_words-outcome.ensures.told
+
+pub returns-clause-files : goal.returns-clause-files
+returns-clause-files g c = laws.keeps_files _ _ _ _ c.run_words-outcome.ensures.told
+
+pub returns-clause-successors : goal.returns-clause-successors
+returns-clause-successors g c = laws.successors _ _ _ _ c.run_words-outcome.ensures.told refl
+
+pub returns-clause-committed : goal.returns-clause-committed
+returns-clause-committed g c = laws.versions _ _ _ _ c.run_words-outcome.ensures.told refl
+
+pub returns-clause-left : goal.returns-clause-left
+returns-clause-left g c = λ none. laws.left _ _ _ _ c.run_words-outcome.ensures.told none
+
+pub returns-clause-rests : goal.returns-clause-rests
+returns-clause-rests g c = λ is. laws.rests _ _ _ _ c.run_words-outcome.ensures.told is
+
+pub returns-clause-halted : goal.returns-clause-halted
+returns-clause-halted g c = laws.halts _ _ _ _ c.run_words-outcome.ensures.told

@@ -1,0 +1,9 @@
+pub mod Points
+pub mod Chains
+pub mod Commands
+pub mod Words
+pub mod Reports
+pub mod Verdicts
+pub mod Promises
+pub mod Statements
+pub mod Runs

@@ -1,0 +1,43 @@
+-- What a statement's report says (after Iceberg's Spark procedures).
+use Rattle.std.specs.Prelude.{◌≡◌, ℕ, ℤ, List, [], ◌∷◌, map, codes, Option, Ok}
+use Rattle.std.specs.Fmt.{decimal, signed_decimal}
+use Rattle.serde_json.specs.Data.{Data}
+use Rattle.run_answers.specs.Reports.{report_text, id_cell}
+use Rattle.ref_moves.specs.Ancestors.{Lists}
+use Rattle.ref_moves.specs.Moves.{HasSeen}
+use Rattle.ref_moves.specs.declared.ancestors.Ancestor.{Ancestor}
+use Rattle.ref_moves.specs.declared.goal.Goal.{Goal}
+use Rattle.ref_moves.specs.declared.goal.Goal.TheVariants.{Rollback, SetCurrent, SetCurrentTo, FastForward}
+use Rattle.upkeep_top.specs.declared.task.Work.{Work}
+use Rattle.upkeep_top.specs.declared.task.Work.TheVariants.{Move, List as Listing}
+
+abbrev pub snapshot_columns : List (List ℕ)
+snapshot_columns = codes "previous_snapshot_id" ∷ codes "current_snapshot_id" ∷ []
+
+abbrev pub branch_columns : List (List ℕ)
+branch_columns = codes "branch_updated" ∷ codes "previous_ref" ∷ codes "updated_ref" ∷ []
+
+abbrev pub ancestor_columns : List (List ℕ)
+ancestor_columns = codes "snapshot_id" ∷ codes "timestamp" ∷ []
+
+abbrev pub ref_row : Option ℤ → ℤ → List (List ℕ)
+ref_row previous id = id_cell previous ∷ signed_decimal id ∷ []
+
+-- where the ref was and where it is to be, of a branch with its name
+abbrev pub move_report : Goal → Option ℤ → ℤ → List ℕ
+move_report (Rollback given) previous id = report_text snapshot_columns (ref_row previous id ∷ [])
+move_report (SetCurrent given) previous id = report_text snapshot_columns (ref_row previous id ∷ [])
+move_report (SetCurrentTo name) previous id = report_text snapshot_columns (ref_row previous id ∷ [])
+move_report (FastForward branch to) previous id = report_text branch_columns ((branch ∷ ref_row previous id) ∷ [])
+
+abbrev pub ancestor_row : Ancestor → List (List ℕ)
+ancestor_row a = signed_decimal a.id ∷ decimal a.ms ∷ []
+
+-- each snapshot of the walk with its moment
+abbrev pub list_report : List Ancestor → List ℕ
+list_report rows = report_text ancestor_columns (map ancestor_row rows)
+
+-- the report of the work on a table's metadata
+abbrev pub Says : Work → Data → List ℕ → Type 0
+Says (Move goal) tree text = (previous : Option ℤ) × (id : ℤ) × HasSeen goal tree previous id × (text ≡ move_report goal previous id)
+Says (Listing given) tree text = (rows : List Ancestor) × Lists given tree (Ok rows) × (text ≡ list_report rows)

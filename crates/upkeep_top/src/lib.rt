@@ -1,0 +1,22 @@
+//! The top call `run`: statements over a store, a clock, a source of identifiers and two sinks.
+//!
+//! - `words`: each word is read and typed as a statement, before the first store call; what words ask for and how they
+//!   are refused is defined in `specs/Words.antt`.
+//! - `task`: the statements that are built.
+//! - `statement`: one statement is run; what it does is defined in `specs/Statements.antt`, and the cause of each of its
+//!   statuses in `specs/Verdicts.antt`.
+//! - `report`: the reports of the statements.
+//! - `top_call`: all statements in order. What a run promises is defined in `specs/Runs.antt` and `specs/Promises.antt`.
+#![tactic(auto)]
+
+mod report;
+mod statement;
+mod task;
+#[cfg(test)]
+mod tests;
+mod top_call;
+mod words;
+
+pub use run_answers::{Outcome, PlaceList, Status, Versions};
+pub use task::{Task, Work};
+pub use top_call::run;

@@ -1,0 +1,135 @@
+//! The top call `run`: statements over a store, a clock, a source of identifiers and two sinks.
+ghost use Rattle.std.specs.Prelude.{◌≡◌, ◌⊎◌, ◌∷◌, [], ℕ, ℤ, List, Option};
+ghost use Rattle.ice_store.specs.Calls.{Rose};
+ghost use Rattle.ice_store.specs.Others.{WhereTold};
+ghost use Rattle.ice_store.specs.Places.{Parts};
+ghost use Rattle.ice_store.specs.Since.{Since};
+ghost use Rattle.ice_store.specs.declared.faults.What.{What as TheWhat};
+ghost use Rattle.ice_store.specs.declared.faults.Where.{Where as TheWhere};
+ghost use Rattle.table_publish.specs.Stages.{At as Stands};
+ghost use Rattle.run_answers.specs.Messages.{message_line};
+ghost use Rattle.run_answers.specs.Puts.{TakesPrefix, TakesAll};
+ghost use Rattle.run_answers.specs.declared.status.Status.{Status as TheStatus};
+ghost use Rattle.upkeep_top.specs.Points.{point};
+ghost use Rattle.upkeep_top.specs.Runs.{Ended, Runs, ComesExactly, IsComplete, IsSafeRun, KeepsPrefix, KeepsFiles, EachSucceeds, TellsVersions, MayLeave};
+ghost use Rattle.upkeep_top.specs.Statements.{Halts};
+ghost use Rattle.upkeep_top.specs.Words.{RefusesWords};
+ghost use Rattle.upkeep_top.specs.declared.task.Task.{Task as TheTask};
+
+use crate::statement::run_task;
+use crate::task::Task;
+use crate::words::read_words;
+use commit_protocol::Log;
+use ice_store::{Alone, Clock, Ids, Items, Sink, Store, Text};
+use run_answers::{Outcome, Status, put_message};
+use std::alloc::Global;
+
+// the statements in order, up to the first that isn't Done
+fn run_tasks<S: Store<Alone>, C: Clock, I: Ids, O: Sink>(
+    alloc: Global,
+    tasks: &[Task],
+    store: &mut S,
+    clock: &mut C,
+    ids: &mut I,
+    out: &mut O,
+    log: &mut Log,
+) -> Status
+    requires start { WhereTold (S.past store.old) (Stands (λ d. d.pending ≡ [])) }
+    ensures { (first : TheTask) (more : List TheTask) → tasks.now ≡ first ∷ more → Ended tasks.now result (point (S.past store.old) (S.faults store.old) (S.halted store.old) (C.given clock.old) (I.given ids.old) (O.contents out.old) (O.faults out.old) log.old.committed.items log.old.left.items)
+        (point (S.past store.new) (S.faults store.new) (S.halted store.new) (C.given clock.new) (I.given ids.new) (O.contents out.new) (O.faults out.new) log.new.committed.items log.new.left.items) }
+{
+    for task in tasks {
+        let status = run_task::<S, C, I, O>(alloc, task, store, clock, ids, out, log);
+        if !status.is_done() {
+            return status;
+        }
+    }
+    Status::Done
+}
+
+// reads the words and runs their statements
+fn run_words<S: Store<Alone>, C: Clock, I: Ids, O: Sink>(
+    alloc: Global,
+    words: &[Text],
+    store: &mut S,
+    clock: &mut C,
+    ids: &mut I,
+    out: &mut O,
+) -> Outcome
+    requires start { WhereTold (S.past store.old) (Stands (λ d. d.pending ≡ [])) }
+    ensures told { Runs words.now result.status (point (S.past store.old) (S.faults store.old) (S.halted store.old) (C.given clock.old) (I.given ids.old) (O.contents out.old) (O.faults out.old) [] [])
+        (point (S.past store.new) (S.faults store.new) (S.halted store.new) (C.given clock.new) (I.given ids.new) (O.contents out.new) (O.faults out.new) result.committed result.left) }
+    ensures no_call { (status : TheStatus) → RefusesWords words.now status → store.new ≡ store.old }
+{
+    let mut log = Log {
+        committed: Vec::new(alloc),
+        left: Vec::new(alloc),
+    };
+    let status = match read_words(alloc, words) {
+        Ok(tasks) => run_tasks::<S, C, I, O>(
+            alloc,
+            tasks.inner(),
+            store,
+            clock,
+            ids,
+            out,
+            &mut log,
+        ),
+        Err(status) => status,
+    };
+    Outcome {
+        status,
+        committed: Items::new(log.committed),
+        left: Items::new(log.left),
+    }
+}
+
+/// Runs the statements that the words are, one a word, in order up to the first that isn't Done, and tells how that ended.
+///
+/// All words are read and typed before the first store call, and all name one table; refused words make no store call.
+/// The clock is read once a statement. `out` gets the reports of the statements that are Done, and `err` one line where
+/// the status isn't Done; what becomes of `err` changes nothing else.
+pub fn run<R: AllocGlobal, S: Store<Alone>, C: Clock, I: Ids, O: Sink, X: Sink>(
+    rt: &R,
+    words: &[Text],
+    store: &mut S,
+    clock: &mut C,
+    ids: &mut I,
+    out: &mut O,
+    err: &mut X,
+) -> Outcome
+    requires start { WhereTold (S.past store.old) (Stands (λ d. d.pending ≡ [])) }
+    ensures told { Runs words.now result.status (point (S.past store.old) (S.faults store.old) (S.halted store.old) (C.given clock.old) (I.given ids.old) (O.contents out.old) (O.faults out.old) [] [])
+        (point (S.past store.new) (S.faults store.new) (S.halted store.new) (C.given clock.new) (I.given ids.new) (O.contents out.new) (O.faults out.new) result.committed result.left) }
+    ensures refused { (status : TheStatus) → RefusesWords words.now status → (result.status ≡ status) ⊎ (result.status ≡ Status.OutOfMemory) }
+    ensures no_call { (status : TheStatus) → RefusesWords words.now status → store.new ≡ store.old }
+    ensures done { ComesExactly words.now result.status (S.past store.old) (S.past store.new) Status.Done }
+    ensures no_table { (place : Parts) → ComesExactly words.now result.status (S.past store.old) (S.past store.new) (Status.NoTable place) }
+    ensures location_differs { (table : Parts) (location : List ℕ) → ComesExactly words.now result.status (S.past store.old) (S.past store.new) (Status.LocationDiffers table location) }
+    ensures missing { (place : Parts) → ComesExactly words.now result.status (S.past store.old) (S.past store.new) (Status.Missing place) }
+    ensures damaged { (place : Parts) (at : TheWhere) → ComesExactly words.now result.status (S.past store.old) (S.past store.new) (Status.Damaged place at) }
+    ensures unsupported { (place : Parts) (what : TheWhat) → ComesExactly words.now result.status (S.past store.old) (S.past store.new) (Status.Unsupported place what) }
+    ensures unknown_snapshot { (id : ℤ) → ComesExactly words.now result.status (S.past store.old) (S.past store.new) (Status.UnknownSnapshot id) }
+    ensures unknown_ref { (name : List ℕ) → ComesExactly words.now result.status (S.past store.old) (S.past store.new) (Status.UnknownRef name) }
+    ensures not_ancestor { (id : ℤ) (of : Option ℤ) → ComesExactly words.now result.status (S.past store.old) (S.past store.new) (Status.NotAncestor id of) }
+    ensures name_taken { (place : Parts) → ComesExactly words.now result.status (S.past store.old) (S.past store.new) (Status.NameTaken place) }
+    ensures contended { (version : ℕ) → ComesExactly words.now result.status (S.past store.old) (S.past store.new) (Status.Contended version) }
+    ensures complete { IsComplete words.now result.status (S.past store.old) (S.past store.new) (Rose (S.faults store.old) (S.faults store.new)) (Rose (O.faults out.old) (O.faults out.new)) }
+    ensures store_fault { (place : Parts) → result.status ≡ Status.StoreFault place → Rose (S.faults store.old) (S.faults store.new) }
+    ensures unknown { (version : ℕ) → result.status ≡ Status.CommitUnknown version → Rose (S.faults store.old) (S.faults store.new) }
+    ensures out_fault { result.status ≡ Status.OutFault → Rose (O.faults out.old) (O.faults out.new) }
+    ensures safe { Since (S.past store.old) (S.past store.new) (IsSafeRun words.now) }
+    ensures prefix { Since (S.past store.old) (S.past store.new) (KeepsPrefix words.now) }
+    ensures files { Since (S.past store.old) (S.past store.new) (KeepsFiles words.now) }
+    ensures successors { Since (S.past store.old) (S.past store.new) (EachSucceeds words.now result.committed) }
+    ensures committed { Since (S.past store.old) (S.past store.new) (TellsVersions words.now result.status result.committed) }
+    ensures left { (MayLeave result.status → ⊥) → result.left ≡ [] }
+    ensures rests { result.status ≡ Status.Done → WhereTold (S.past store.new) (Stands (λ d. d.pending ≡ [])) }
+    ensures halted { Halts (S.halted store.old) (S.halted store.new) (S.past store.new) }
+    ensures message { TakesPrefix (X.contents err.old) (X.contents err.new) (message_line result.status) }
+    ensures whole_message { (Rose (X.faults err.old) (X.faults err.new) → ⊥) → TakesAll (X.contents err.old) (X.contents err.new) (message_line result.status) }
+{
+    let outcome = run_words::<S, C, I, O>(rt.alloc(), words, store, clock, ids, out);
+    let _ = put_message(err, &outcome.status);
+    outcome
+}

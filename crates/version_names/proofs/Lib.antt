@@ -1,0 +1,4 @@
+pub mod DigitLaws
+pub mod NumberLaws
+pub mod NameLaws
+pub mod SlashLaws

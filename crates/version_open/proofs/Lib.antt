@@ -1,0 +1,4 @@
+pub mod OpenLaws
+pub mod LatestLaws
+pub mod BeyondLaws
+pub mod FirstPlace
