@@ -16,7 +16,8 @@ use Rattle.ice_store.specs.declared.store.StoreErr.{StoreErr}
 use Rattle.ice_store.specs.declared.store.StoreErr.TheVariants.{Failed, Memory}
 use Rattle.ice_store.specs.declared.store.Made.{Made}
 use Rattle.ice_store.specs.declared.store.Made.TheVariants.{New, Exists}
-use Rattle.table_publish.specs.Leaves.{MakeLeaves}
+use Rattle.table_publish.specs.Leaves.{MakeLeaves, Unmade, Undropped}
+use Rattle.table_publish.specs.declared.steps.Call.TheVariants.{OnFile, OnNames}
 use Rattle.ice_store.specs.declared.store.Moved.TheVariants.{Done, Exists as There}
 use Rattle.ice_store.specs.declared.store.Gone.{Gone}
 use Rattle.ice_store.specs.declared.store.Gone.TheVariants.{Done as Away, Absent}
@@ -109,6 +110,15 @@ module _ (x : Work) where
   loose plan rest done K old new is run = ran_turned x.number x.Good x.Reached x.allows (Exactly done) (Begun plan) K Anything old new run
       (λ l e. record { rest = rest; is = is ∙ ap (λ (k : List Step). k ++ rest) (sym e) }) (λ here. tt)
 
+  -- with nothing known of the state
+  pub unstaged : (M : List Step → Type 0) (K : Past → Type 0) (old new : Past) → RR M K old new → RR M Anything old new
+  unstaged M K old new run = ran_turned x.number x.Good x.Reached x.allows M M K Anything old new run (λ l m. m) (λ here. tt)
+
+  -- steps begun behind others
+  pub behind : (first plan done rest : List Step) (K : Past → Type 0) (old new : Past) → plan ≡ done ++ rest → RR (Exactly (first ++ done)) K old new → RR (Then first (Begun plan)) Anything old new
+  behind first plan done rest K old new is run = ran_turned x.number x.Good x.Reached x.allows (Exactly (first ++ done)) (Then first (Begun plan)) K Anything old new run
+      (λ l e. record { rest = done; is = e; then = record { rest = rest; is = is } }) (λ here. tt)
+
   -- one run after another
   module _ (old mid new : Past) where
     pub join_exact : (first second : List Step) (K L : Past → Type 0) → RR (Exactly first) K old mid → RR (Exactly second) L mid new → RR (Exactly (first ++ second)) L old new
@@ -167,8 +177,8 @@ module _ (x : Work) where
     create_ok New run told = create_new run told
     create_ok Exists run told = create_exists run told
 
-    pub create_err : (e : StoreErr) → RR (Exactly []) K0 old now → Answered x.allows now (Some new) (CreateAnswer x.draft (Err e)) → RR (Begun (Create x.draft ∷ [])) Anything old new
-    create_err Memory run told = loose (Create x.draft ∷ []) (Create x.draft ∷ []) [] K0 old new refl (still [] K0 k0 run (CreateAnswer x.draft (Err Memory)) told told.answer)
+    pub create_err : (e : StoreErr) → RR (Exactly []) K0 old now → Answered x.allows now (Some new) (CreateAnswer x.draft (Err e)) → RR (Unmade x.draft e) Anything old new
+    create_err Memory run told = unstaged (Exactly []) K0 old new (still [] K0 k0 run (CreateAnswer x.draft (Err Memory)) told told.answer)
     create_err Failed run told = elim told.answer [
       | inl nothing ↦ loose (Create x.draft ∷ []) (Create x.draft ∷ []) [] K0 old new refl (still [] K0 k0 run (CreateAnswer x.draft (Err Failed)) told nothing)
       | inr one ↦
@@ -299,11 +309,11 @@ module _ (x : Work) where
           let at = here [] KT kt run A told in
           does_step [] KT KN kt run A told (Remove x.draft) one x.aim.plain (λ t steady. stages.remove_keeps x.number x.Good x.Reached x.ruled x.localized x.allows x.mannered x.draft x.base x.target x.text x.bytes x.aim told.reached t never at steady) (λ t. stages.remove_leads x.number x.Good x.Reached x.ruled x.localized x.allows x.mannered x.draft x.base x.target x.text x.bytes x.aim told.reached t at)
 
-      pub remove_err : (e : StoreErr) → Answered x.allows now (Some new) (RemoveAnswer x.draft (Err e)) → RR (Begun (Remove x.draft ∷ SyncNames ∷ [])) Anything old new
-      remove_err Memory told = loose (Remove x.draft ∷ SyncNames ∷ []) (Remove x.draft ∷ SyncNames ∷ []) [] KT old new refl (still [] KT kt run (RemoveAnswer x.draft (Err Memory)) told told.answer)
+      pub remove_err : (e : StoreErr) → Answered x.allows now (Some new) (RemoveAnswer x.draft (Err e)) → RR (Undropped x.draft OnFile e) Anything old new
+      remove_err Memory told = unstaged (Exactly []) KT old new (still [] KT kt run (RemoveAnswer x.draft (Err Memory)) told told.answer)
       remove_err Failed told = elim told.answer [
-        | inl nothing ↦ loose (Remove x.draft ∷ SyncNames ∷ []) (Remove x.draft ∷ SyncNames ∷ []) [] KT old new refl (still [] KT kt run (RemoveAnswer x.draft (Err Failed)) told nothing)
-        | inr one ↦ loose (Remove x.draft ∷ SyncNames ∷ []) (SyncNames ∷ []) (Remove x.draft ∷ []) KN old new refl (removes (RemoveAnswer x.draft (Err Failed)) told one.1)
+        | inl nothing ↦ loose (Remove x.draft ∷ []) (Remove x.draft ∷ []) [] KT old new refl (still [] KT kt run (RemoveAnswer x.draft (Err Failed)) told nothing)
+        | inr one ↦ loose (Remove x.draft ∷ []) [] (Remove x.draft ∷ []) KN old new refl (removes (RemoveAnswer x.draft (Err Failed)) told one.1)
       ]
 
       -- it stands, so it isn't absent
@@ -317,8 +327,18 @@ module _ (x : Work) where
       pub dropped_ok : Answered x.allows now (Some new) (PlainAnswer SyncNames (Ok tt)) → RR (Exactly (Remove x.draft ∷ SyncNames ∷ [])) KL old new
       dropped_ok = plain_ok (Remove x.draft ∷ []) [] SyncNames KN KL kn run (λ past at. tt) (sync_keeps KN) (λ past t at. stages.named_leads x.number x.Good x.Reached x.ruled x.localized x.allows x.mannered x.draft x.base x.target x.text x.bytes x.aim past t at)
 
-      pub dropped_err : (e : StoreErr) → Answered x.allows now (Some new) (PlainAnswer SyncNames (Err e)) → RR (Begun (Remove x.draft ∷ SyncNames ∷ [])) Anything old new
-      dropped_err e = plain_err (Remove x.draft ∷ []) [] SyncNames KN KL kn run (λ past at. tt) (sync_keeps KN) (λ past t at. stages.named_leads x.number x.Good x.Reached x.ruled x.localized x.allows x.mannered x.draft x.base x.target x.text x.bytes x.aim past t at) e
+      named_leads : (past : Past) (t : ℕ) → KN past → KL (later past (us SyncNames t ∷ []))
+      named_leads past t at = stages.named_leads x.number x.Good x.Reached x.ruled x.localized x.allows x.mannered x.draft x.base x.target x.text x.bytes x.aim past t at
+
+      unsynced : (e : StoreErr) (told : Answered x.allows now (Some new) (PlainAnswer SyncNames (Err e))) → told.ours ≡ [] → RR (Then (Remove x.draft ∷ []) (Begun (SyncNames ∷ []))) Anything old new
+      unsynced e told nothing = behind (Remove x.draft ∷ []) (SyncNames ∷ []) [] (SyncNames ∷ []) KN old new refl (still (Remove x.draft ∷ []) KN kn run (PlainAnswer SyncNames (Err e)) told nothing)
+
+      pub dropped_err : (e : StoreErr) → Answered x.allows now (Some new) (PlainAnswer SyncNames (Err e)) → RR (Undropped x.draft OnNames e) Anything old new
+      dropped_err Memory told = unsynced Memory told told.answer
+      dropped_err Failed told = elim told.answer [
+        | inl nothing ↦ unsynced Failed told nothing
+        | inr one ↦ behind (Remove x.draft ∷ []) (SyncNames ∷ []) (SyncNames ∷ []) [] KL old new refl (steps_on (Remove x.draft ∷ []) [] SyncNames KN KL kn run (λ past at. tt) (sync_keeps KN) named_leads (PlainAnswer SyncNames (Err Failed)) told one)
+      ]
 
   -- what the calls require
   module _ (old now reached : Past) (acted : Acted x.allows now reached) where

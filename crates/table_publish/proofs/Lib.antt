@@ -1,4 +1,5 @@
 pub mod StageLaws
 pub mod CallLaws
 pub mod Narrow
+pub mod LeftLaws
 pub mod PublishLaws

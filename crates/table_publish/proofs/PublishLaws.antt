@@ -1,5 +1,5 @@
 -- Laws of a publish: its pieces one after another.
-use Rattle.std.proofs.Common.{◌≡◌, ◌⊎◌, inl, inr, List, [], ◌∷◌, ◌++◌, true, false, Ok, Err, Result, sym, ap, subst}
+use Rattle.std.proofs.Common.{◌≡◌, ◌⊎◌, inl, inr, List, [], ◌∷◌, ◌++◌, true, false, Ok, Err, Result, sym, ap, ◌∙◌, subst, append_assoc}
 use Rattle.ice_store.specs.Places.{Parts}
 use Rattle.ice_store.specs.declared.history.Past.{Past}
 use Rattle.ice_store.specs.declared.history.Step.{Step}
@@ -7,7 +7,7 @@ use Rattle.ice_store.specs.declared.history.Step.TheVariants.{Create, Rename, Re
 use Rattle.ice_store.specs.declared.store.StoreErr.{StoreErr}
 use Rattle.ice_store.specs.declared.store.StoreErr.TheVariants.{Failed, Memory}
 use Rattle.table_publish.specs.Stages.{Creating, AtRest, Exactly, Begun, BegunFill, Anything, Then, Partly, Reaching, draft_plan}
-use Rattle.table_publish.specs.Leaves.{UnwrittenLeaves, FinishLeaves, PublishLeaves}
+use Rattle.table_publish.specs.Leaves.{Unmade, Undropped, UnwrittenLeaves, FinishLeaves, PublishLeaves}
 use Rattle.table_history.proofs.Running.{ran_then, ran_turned}
 use Rattle.table_publish.specs.Logs.{LeftBy, left_by_move, left_by_drop, fault_from, unknown_from}
 use Rattle.table_publish.specs.declared.steps.Call.{Call}
@@ -50,8 +50,12 @@ module _ (x : Work) where
   partly_unwritten call Failed old new run = run
   partly_unwritten call Memory old new run = run
 
-  pub unmade : (call : Call) (cause : StoreErr) (old new : Past) → RR x (Begun (Create x.draft ∷ [])) Anything old new → Unwrote (fault_from cause call) old new
-  unmade call cause old new run = partly_unwritten call cause old new (turned (Begun (Create x.draft ∷ [])) (Partly x.draft x.bytes) old new (λ l b. inl b) run)
+  begun_creation : (cause : StoreErr) (l : List Step) → Unmade x.draft cause l → Begun (Create x.draft ∷ []) l
+  begun_creation Failed l b = b
+  begun_creation Memory l e = record { rest = Create x.draft ∷ []; is = ap (λ (z : List Step). z ++ Create x.draft ∷ []) (sym e) }
+
+  pub unmade : (call : Call) (cause : StoreErr) (old new : Past) → RR x (Unmade x.draft cause) Anything old new → Unwrote (fault_from cause call) old new
+  unmade call cause old new run = partly_unwritten call cause old new (turned (Unmade x.draft cause) (Partly x.draft x.bytes) old new (λ l b. inl (begun_creation cause l b)) run)
 
   pub unfilled : (call : Call) (cause : StoreErr) (old mid new : Past) → RR x (Exactly (Create x.draft ∷ [])) (KD x Creating false []) old mid → RR x (BegunFill x.draft x.bytes) Anything mid new → Unwrote (fault_from cause call) old new
   unfilled call cause old mid new a b = partly_unwritten call cause old new (turned (Then (Create x.draft ∷ []) (BegunFill x.draft x.bytes)) (Partly x.draft x.bytes) old new (λ l t. inr (inl t))
@@ -69,8 +73,16 @@ module _ (x : Work) where
   behind_none : (P : List Step → Type 0) (l k : List Step) → l ≡ [] → P k → P (l ++ k)
   behind_none P l k none here = subst (λ z. P (z ++ k)) (sym none) here
 
-  pub undropped : (call : Call) (cause : StoreErr) (old mid new : Past) → RR x (Exactly []) (KT x) old mid → RR x (Begun drop_plan) Anything mid new → Finish (Err (fault_from cause call)) old new
-  undropped call cause old mid new a b = by_cause cause (ran_then x.number x.Good x.Reached x.allows (Exactly []) (Begun drop_plan) (Begun drop_plan) (KT x) Anything (behind_none (Begun drop_plan)) old mid new a b)
+  begun_removal : (call : Call) (cause : StoreErr) (l : List Step) → Undropped x.draft call cause l → Begun drop_plan l
+  begun_removal OnFile Failed l b = record { rest = b.rest ++ SyncNames ∷ []; is = ap (λ (z : List Step). z ++ SyncNames ∷ []) b.is ∙ append_assoc l b.rest (SyncNames ∷ []) }
+  begun_removal OnFile Memory l e = record { rest = drop_plan; is = ap (λ (z : List Step). z ++ drop_plan) (sym e) }
+  begun_removal OnNames cause l t = record { rest = t.then.rest; is = ap (λ (z : List Step). Remove x.draft ∷ z) t.then.is ∙ ap (λ (z : List Step). z ++ t.then.rest) (sym t.is) }
+
+  pub lost_then : (P : List Step → Type 0) (K : Past → Type 0) (old mid new : Past) → RR x (Exactly []) (KT x) old mid → RR x P K mid new → RR x P K old new
+  lost_then P K old mid new a b = ran_then x.number x.Good x.Reached x.allows (Exactly []) P P (KT x) K (behind_none P) old mid new a b
+
+  pub undropped : (call : Call) (cause : StoreErr) (old mid new : Past) → RR x (Exactly []) (KT x) old mid → RR x (Undropped x.draft call cause) Anything mid new → Finish (Err (fault_from cause call)) old new
+  undropped call cause old mid new a b = by_cause cause (lost_then (Begun drop_plan) Anything old mid new a (turned (Undropped x.draft call cause) (Begun drop_plan) mid new (begun_removal call cause) b))
     where
       by_cause : (cause : StoreErr) → RR x (Begun drop_plan) Anything old new → Finish (Err (fault_from cause call)) old new
       by_cause Failed run = run

@@ -15,7 +15,9 @@ use Rattle.ice_store.specs.declared.store.Moved.{Moved}
 use Rattle.ice_store.specs.declared.store.Moved.TheVariants.{Done, Exists as There}
 use Rattle.table_history.specs.Tables.{GoodBy, ReachBy}
 use Rattle.table_history.specs.Runs.{Ran}
-use Rattle.table_publish.specs.Stages.{Creating, AtRest, Stage, HasDraft, IsTaken, IsLost, At, IsBased, IsPublished, Exactly, Begun, BegunFill, Anything, Partly, Reaching, draft_plan, fill_plan}
+use Rattle.table_publish.specs.Stages.{Creating, AtRest, Stage, HasDraft, IsTaken, IsLost, At, IsBased, IsPublished, Exactly, Begun, BegunFill, Anything, Then, Partly, Reaching, draft_plan, fill_plan}
+use Rattle.table_publish.specs.declared.steps.Call.{Call}
+use Rattle.table_publish.specs.declared.steps.Call.TheVariants.{OnFile, OnNames}
 use Rattle.table_publish.specs.declared.steps.CallErr.{CallErr}
 use Rattle.table_publish.specs.declared.publish.Unwritten.{Unwritten}
 use Rattle.table_publish.specs.declared.publish.PublishErr.{PublishErr}
@@ -35,11 +37,22 @@ abbrev pub Halts : {T E : Type 0} → Result T E → Option ℕ → Option ℕ �
 Halts (Ok x) before now told = now ≡ before
 Halts (Err e) before now told = (now ≡ before) ⊎ WhereTold told (λ past. now ≡ Some (length past.events))
 
+-- the steps of a creation that did not do its work: a failed one may have taken place
+abbrev pub Unmade : Parts → StoreErr → List Step → Type 0
+Unmade draft Failed = Begun (Create draft ∷ [])
+Unmade draft Memory = Exactly []
+
+-- and of a removal with the sync behind it
+abbrev pub Undropped : Parts → Call → StoreErr → List Step → Type 0
+Undropped draft OnFile Failed = Begun (Remove draft ∷ [])
+Undropped draft OnFile Memory = Exactly []
+Undropped draft OnNames cause = Then (Remove draft ∷ []) (Begun (SyncNames ∷ []))
+
 module _ (number : Parts → ℕ) (Good : GoodBy) (Reached : ReachBy) (allows : Past → Step → Type 0) where
   abbrev pub MakeLeaves : Parts → Parts → Parts → Result Made CallErr → Past → Past → Type 0
   MakeLeaves base target draft (Ok New) = Ran number Good Reached allows (Exactly (Create draft ∷ [])) (At (Stage number base target Creating (HasDraft draft false [])))
   MakeLeaves base target draft (Ok Exists) = Ran number Good Reached allows (Exactly []) (At (λ d. is_named d.files draft ≡ true))
-  MakeLeaves base target draft (Err e) = Ran number Good Reached allows (Begun (Create draft ∷ [])) Anything
+  MakeLeaves base target draft (Err e) = Ran number Good Reached allows (Unmade draft e.cause) Anything
 
   abbrev pub FillLeaves : Parts → Parts → Parts → List ℕ → Result (Unit {0}) CallErr → Past → Past → Type 0
   FillLeaves base target draft bytes (Ok u) = Ran number Good Reached allows (Exactly (fill_plan draft bytes)) (At (Stage number base target AtRest (HasDraft draft true bytes)))
@@ -53,7 +66,7 @@ module _ (number : Parts → ℕ) (Good : GoodBy) (Reached : ReachBy) (allows : 
 
   abbrev pub DropLeaves : Parts → Parts → Result (Unit {0}) CallErr → Past → Past → Type 0
   DropLeaves draft target (Ok u) = Ran number Good Reached allows (Exactly (Remove draft ∷ SyncNames ∷ [])) (At (IsLost target))
-  DropLeaves draft target (Err e) = Ran number Good Reached allows (Begun (Remove draft ∷ SyncNames ∷ [])) Anything
+  DropLeaves draft target (Err e) = Ran number Good Reached allows (Undropped draft e.call e.cause) Anything
 
   abbrev pub UnwrittenLeaves : Parts → List ℕ → PublishErr → Past → Past → Type 0
   UnwrittenLeaves draft bytes NameTaken = Ran number Good Reached allows (Exactly []) (At (λ d. is_named d.files draft ≡ true))

@@ -1,3 +1,4 @@
 pub mod Stages
 pub mod Leaves
 pub mod Logs
+pub mod Left

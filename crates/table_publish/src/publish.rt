@@ -6,6 +6,8 @@ ghost use Rattle.table_history.specs.Mannered.{IsMannered};
 ghost use Rattle.table_history.specs.Versions.{number_in};
 ghost use Rattle.table_publish.specs.Stages.{Narrow, NoReach, Creating, AtRest, Aim, Stage, NoFile, HasDraft, At};
 ghost use Rattle.table_publish.specs.Leaves.{PublishLeaves, FinishLeaves, WriteLeaves, Halts};
+ghost use Rattle.ice_store.specs.Calls.{Rose};
+ghost use Rattle.table_publish.specs.Left.{Leaves, Notes, IsNaming, draft_if, committed_count};
 ghost use Rattle.table_publish.specs.Logs.{PublishRose, WriteRose, IsMadeBy, LeftBy, committed_by, left_by_move, left_by_drop, is_failed, fault_from, unknown_from};
 
 use crate::steps::{Call, CallErr, Format, Route, drop_draft, fill_draft, make_draft, move_draft};
@@ -89,6 +91,7 @@ fn write_draft<F: Format, M: Manners, S: Store<M>>(
     ensures later { S.faults store.old ≤ S.faults store.new }
     ensures halted { Halts result (S.halted store.old) (S.halted store.new) (S.past store.new) }
     ensures made { IfErr result (λ u. IsMadeBy u.error u.is_made) }
+    ensures left { IfErr result (λ u. Since (S.past store.old) (S.past store.new) (Leaves (Rose (S.faults store.old) (S.faults store.new)) (IsNaming route.now.draft route.now.target) 0 [] (draft_if u.is_made route.now.draft))) }
 {
     match make_draft::<F, M, S>(store, route) {
         Ok(Made::New) => {}
@@ -120,6 +123,7 @@ pub fn publish<F: Format, M: Manners, S: Store<M>>(
     ensures halted { Halts result (S.halted store.old) (S.halted store.new) (S.past store.new) }
     ensures committed { log.new.committed.items ≡ committed_by version result log.old.committed.items }
     ensures left { LeftBy route.now.draft route.now.target result log.old.left.items log.new.left.items }
+    ensures noted { Since (S.past store.old) (S.past store.new) (Notes (Rose (S.faults store.old) (S.faults store.new)) (IsNaming route.now.draft route.now.target) (committed_count result) [] log.old.left.items log.new.left.items) }
 {
     let (Ok(draft), Ok(target)) = (route.draft.copy(), route.target.copy()) else {
         return Err(PublishErr::NoMemory);
@@ -187,6 +191,7 @@ fn finish<F: Format, M: Manners, S: Store<M>>(
     ensures halted { Halts result (S.halted store.old) (S.halted store.new) (S.past store.new) }
     ensures committed { log.new.committed.items ≡ committed_by version result log.old.committed.items }
     ensures left { LeftBy route.now.draft route.now.target result log.old.left.items log.new.left.items }
+    ensures noted { Since (S.past store.old) (S.past store.new) (Notes (Rose (S.faults store.old) (S.faults store.new)) (IsNaming route.now.draft route.now.target) (committed_count result) (route.now.draft ∷ []) log.old.left.items log.new.left.items) }
 {
     match move_draft::<F, M, S>(store, route, bytes) {
         Ok(Moved::Done) => {

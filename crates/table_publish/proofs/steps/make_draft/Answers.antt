@@ -1,10 +1,11 @@
-use Rattle.std.proofs.Common.{[], ◌∷◌, Ok, Err}
+use Rattle.std.proofs.Common.{[], Ok, Err, sym, subst}
+use Rattle.ice_store.specs.Since.{Since}
 use Rattle.ice_store.specs.Calls.{CreateAnswer, IsUnmoved}
 use Rattle.ice_store.specs.declared.history.Past.{Past}
-use Rattle.ice_store.specs.declared.history.Step.TheVariants.{Create}
 use Rattle.ice_store.proofs.SinceLaws.{since_call, since_stands, since_start}
-use Rattle.table_publish.specs.Stages.{Exactly, Begun, Anything}
-use Rattle.table_publish.specs.Leaves.{MakeLeaves}
+use Rattle.table_publish.specs.Stages.{Exactly, Anything}
+use Rattle.table_publish.specs.Leaves.{MakeLeaves, Unmade}
+use Rattle.table_publish.specs.declared.steps.CallErr.{CallErr}
 use Rattle.table_publish.proofs.CallLaws as calls
 use Rattle.table_publish.proofs.CallLaws.{RR, K0, KD, KT}
 use Rattle.table_publish.proofs.Narrow.{work}
@@ -27,7 +28,8 @@ returns-in-Err-clause-told g c =
     let Told0 : Past → Past → Type 0 = RR x (Exactly []) (K0 x) in
     let r0 = since_start p0 (K0 x) Told0 c.requires.start (λ old here. calls.starts x (K0 x) old here) in
     let p1 = g.S.Store.past c.create.new.self in
-    since_call (may (g.S.Store.manners c.args.store.now)) p0 p0 p1 Told0 (RR x (Begun (Create x.draft ∷ [])) Anything) (CreateAnswer x.draft (Err c.in-Err.cause)) r0 (c.in-Err.ensures.told) (λ old now new h told. calls.create_err x old now new c.in-Err.cause h told)
+    let told = since_call (may (g.S.Store.manners c.args.store.now)) p0 p0 p1 Told0 (RR x (Unmade x.draft c.in-Err.cause) Anything) (CreateAnswer x.draft (Err c.in-Err.cause)) r0 (c.in-Err.ensures.told) (λ old now new h told. calls.create_err x old now new c.in-Err.cause h told) in
+    subst (λ (e : CallErr). Since p0 p1 (MakeLeaves x.number x.Good x.Reached x.allows x.base x.target x.draft (Err e))) (sym c.on_file.ensures) told
 
 pub returns-in-Ok-clause-told : goal.returns-in-Ok-clause-told
 returns-in-Ok-clause-told g c =
