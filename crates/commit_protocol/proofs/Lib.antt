@@ -4,3 +4,5 @@ pub mod StepLaws
 pub mod QuietLaws
 pub mod VerdictLaws
 pub mod UniqueLaws
+pub mod NoteLaws
+pub mod PromiseLaws

@@ -42,35 +42,42 @@ module _ (number : Parts → ℕ) (Good : GoodBy) (Reached : ReachBy) (allows : 
   pub both : (old mid new : Past) → Steps old mid → Steps mid new → Steps old new
   both old mid new a b = ran_then number Good Reached allows Some_steps Some_steps Some_steps Anything Anything (λ l k m n. tt) old mid new a b
 
-  opened_steps : (base : Parts) (text : List ℕ) (old now : Past) → IsOpened number Good Reached allows base text old now → Steps old now
-  opened_steps base text old now o = some (Exactly []) (Stands (OpenStage number base)) old now o.listed.run
+  abbrev pub Idle : Past → Past → Type 0
+  Idle = Ran number Good Reached allows (Exactly []) Anything
 
-  read_err_steps : (e : ReadErr) (old now : Past) → ReadErrLeaves number Good Reached allows e old now → Steps old now
-  read_err_steps (Missing place) old now r = some (Exactly []) (Stands (λ d. is_named d.files place ≡ false)) old now r.run
-  read_err_steps (Damaged place at) old now r = absurd r
-  read_err_steps (Unsupported place VersionNumber) old now r = some (Exactly []) (Stands (λ d. IsBeyond number place d.files)) old now r
-  read_err_steps (Unsupported place FileBytes) old now r = some (Exactly []) (Stands (λ d. IsLong place d.files)) old now r.run
-  read_err_steps (Unsupported place Codec) old now r = absurd r
-  read_err_steps (Unsupported place FormatVersion) old now r = absurd r
-  read_err_steps (Unsupported place Transform) old now r = absurd r
-  read_err_steps (Unsupported place SchemaSize) old now r = absurd r
-  read_err_steps (Unsupported place BlockBytes) old now r = absurd r
-  read_err_steps (Unsupported place ItemCount) old now r = absurd r
-  read_err_steps (Unsupported place GroupBytes) old now r = absurd r
-  read_err_steps (Unsupported place NoManifestList) old now r = absurd r
-  read_err_steps (Unsupported place Sequence) old now r = absurd r
-  read_err_steps (StoreFault place) old now r = some (Exactly []) Anything old now r
-  read_err_steps Memory old now r = some (Exactly []) Anything old now r
+  still : (K : Past → Type 0) (old new : Past) → Ran number Good Reached allows (Exactly []) K old new → Idle old new
+  still K old new run = ran_turned number Good Reached allows (Exactly []) (Exactly []) K Anything old new run (λ l e. e) (λ k. tt)
 
-  pub open_err_steps : (table : Parts) (e : OpenErr) (old now : Past) → OpenErrLeaves number Good Reached allows table e old now → Steps old now
-  open_err_steps table (NoTable place) old now r = some (Exactly []) (Stands (λ d. version number d.files ≡ 0)) old now r.1
-  open_err_steps table (LocationDiffers place location) old now r = opened_steps r.1.0 r.1.1.text old now r.1.1.opened
-  open_err_steps table (Read (Missing place)) old now r = read_err_steps (Missing place) old now r
-  open_err_steps table (Read (Damaged place at)) old now r = opened_steps place r.text old now r.opened
-  open_err_steps table (Read (Unsupported place what)) old now (inl r) = read_err_steps (Unsupported place what) old now r
-  open_err_steps table (Read (Unsupported place what)) old now (inr r) = opened_steps place r.text old now r.opened
-  open_err_steps table (Read (StoreFault place)) old now r = read_err_steps (StoreFault place) old now r
-  open_err_steps table (Read Memory) old now r = read_err_steps Memory old now r
+  pub opened_idle : (base : Parts) (text : List ℕ) (old now : Past) → IsOpened number Good Reached allows base text old now → Idle old now
+  opened_idle base text old now o = still (Stands (OpenStage number base)) old now o.listed.run
+
+  read_err_idle : (e : ReadErr) (old now : Past) → ReadErrLeaves number Good Reached allows e old now → Idle old now
+  read_err_idle (Missing place) old now r = still (Stands (λ d. is_named d.files place ≡ false)) old now r.run
+  read_err_idle (Damaged place at) old now r = absurd r
+  read_err_idle (Unsupported place VersionNumber) old now r = still (Stands (λ d. IsBeyond number place d.files)) old now r
+  read_err_idle (Unsupported place FileBytes) old now r = still (Stands (λ d. IsLong place d.files)) old now r.run
+  read_err_idle (Unsupported place Codec) old now r = absurd r
+  read_err_idle (Unsupported place FormatVersion) old now r = absurd r
+  read_err_idle (Unsupported place Transform) old now r = absurd r
+  read_err_idle (Unsupported place SchemaSize) old now r = absurd r
+  read_err_idle (Unsupported place BlockBytes) old now r = absurd r
+  read_err_idle (Unsupported place ItemCount) old now r = absurd r
+  read_err_idle (Unsupported place GroupBytes) old now r = absurd r
+  read_err_idle (Unsupported place NoManifestList) old now r = absurd r
+  read_err_idle (Unsupported place Sequence) old now r = absurd r
+  read_err_idle (StoreFault place) old now r = r
+  read_err_idle Memory old now r = r
+
+  -- an opening takes no step of ours
+  pub open_err_idle : (table : Parts) (e : OpenErr) (old now : Past) → OpenErrLeaves number Good Reached allows table e old now → Idle old now
+  open_err_idle table (NoTable place) old now r = still (Stands (λ d. version number d.files ≡ 0)) old now r.1
+  open_err_idle table (LocationDiffers place location) old now r = opened_idle r.1.0 r.1.1.text old now r.1.1.opened
+  open_err_idle table (Read (Missing place)) old now r = read_err_idle (Missing place) old now r
+  open_err_idle table (Read (Damaged place at)) old now r = opened_idle place r.text old now r.opened
+  open_err_idle table (Read (Unsupported place what)) old now (inl r) = read_err_idle (Unsupported place what) old now r
+  open_err_idle table (Read (Unsupported place what)) old now (inr r) = opened_idle place r.text old now r.opened
+  open_err_idle table (Read (StoreFault place)) old now r = read_err_idle (StoreFault place) old now r
+  open_err_idle table (Read Memory) old now r = read_err_idle Memory old now r
 
   pub publish_steps : (base : Parts) (text : List ℕ) (target draft : Parts) (bytes : List ℕ) (r : Result (Unit {0}) PublishErr) (old new : Past) → PublishLeaves number Good Reached allows base text target draft bytes r old new → Steps old new
   publish_steps base text target draft bytes (Ok u) old new run = some (Exactly (draft_plan draft bytes ++ (Rename draft target ∷ SyncNames ∷ []))) (IsPublished number text bytes (IsBased number Good Reached base text old)) old new run
@@ -112,11 +119,11 @@ module _ (number : Parts → ℕ) (Good : GoodBy) (Reached : ReachBy) (allows : 
       attempt_steps (Err (CommitUnknown v)) a = published (Err publishes.Unknown) a.2
 
     attempted_steps : (r : Result Committed CommitErr) (old new : Past) → Attempted number Good Reached allows successor same refuses seen Drawn table now r old new → Steps old new
-    attempted_steps r old new a = both old a.mid new (opened_steps a.at.place a.at.text old a.mid a.opened.opened) (attempt_steps a.at a.mid new r a.then)
+    attempted_steps r old new a = both old a.mid new (some (Exactly []) Anything old a.mid (opened_idle a.at.place a.at.text old a.mid a.opened.opened)) (attempt_steps a.at a.mid new r a.then)
 
     pub commit_steps : (r : Result Committed CommitErr) (old new : Past) → CommitLeaves number Good Reached allows successor same refuses seen Drawn table now r old new → Steps old new
     commit_steps (Ok c) old new a = attempted_steps (Ok c) old new a
-    commit_steps (Err (Open e)) old new a = open_err_steps table e old new a
+    commit_steps (Err (Open e)) old new a = some (Exactly []) Anything old new (open_err_idle table e old new a)
     commit_steps (Err (Attempt e)) old new a = attempted_steps (Err (Attempt e)) old new a
     commit_steps (Err (Contended v)) old new a = attempted_steps (Err (Contended v)) old new a
     commit_steps (Err (CommitUnknown v)) old new a = attempted_steps (Err (CommitUnknown v)) old new a

@@ -3,3 +3,4 @@ pub mod Causes
 pub mod Attempts
 pub mod Written
 pub mod Verdicts
+pub mod Promises

@@ -13,6 +13,7 @@ use Rattle.table_history.specs.Versions.{number_in, folder}
 use Rattle.table_metadata.specs.View.{location_of}
 use Rattle.table_metadata.specs.Edits.{next_version}
 use Rattle.table_publish.specs.Stages.{Aim}
+use Rattle.table_publish.specs.Left.{IsNaming}
 use Rattle.table_publish.specs.declared.steps.Call.TheVariants.{OnFile, OnNames}
 use Rattle.table_publish.specs.declared.publish.PublishErr.{PublishErr}
 use Rattle.table_publish.specs.declared.publish.PublishErr.TheVariants as publishes
@@ -105,3 +106,13 @@ abbrev pub commits : Result Committed CommitErr → List ℕ → List ℕ
 commits (Ok (Same version)) committed = committed
 commits (Ok (Published version)) committed = committed ++ version ∷ []
 commits (Err e) committed = committed
+
+-- a step that names the new metadata file, whose name a drawn identifier gives
+abbrev pub IsNamingOf : (ℕ → Type 0) → Parts → Step → Type 0
+IsNamingOf Drawn table step = (id : ℕ) × ((version : ℕ) × (Drawn id × IsNaming (draft_at table id) (version_at table version) step))
+
+-- how many versions a commit adds to the committed ones
+abbrev pub commit_count : Result Committed CommitErr → ℕ
+commit_count (Ok (Same version)) = 0
+commit_count (Ok (Published version)) = 1
+commit_count (Err e) = 0

@@ -13,6 +13,7 @@ ghost use Rattle.version_open.specs.Latest.{IsBaseNumber};
 ghost use Rattle.version_open.specs.Opening.{OpenStage};
 ghost use Rattle.commit_protocol.specs.Metadata.{IsTableOf, IsMetadata};
 ghost use Rattle.commit_protocol.specs.Attempts.{StaysTable, TellsLimit, AttemptLeaves, CommitLeaves};
+ghost use Rattle.commit_protocol.specs.Promises.{StopsHavePrefix, StopsHaveFiles, Succeeds};
 ghost use Rattle.commit_protocol.specs.Causes.{CommitRose, AttemptErrRose};
 ghost use Rattle.commit_protocol.specs.Verdicts.{IsNobody, IsIdle, IsDecided, IsOneDrawn, CommitVerdict, IsExactCommit};
 ghost use Rattle.ice_store.specs.History.{replay};
@@ -22,7 +23,9 @@ ghost use Rattle.table_metadata.specs.Spelling.{Spells};
 ghost use Rattle.table_metadata.specs.Edits.{next_version};
 ghost use Rattle.table_publish.specs.Stages.{Aim};
 ghost use Rattle.version_names.specs.Names.{version_text_of, version_name, draft_name};
-ghost use Rattle.commit_protocol.specs.Written.{IsWritten, IsUnwritten, CommitLeft, PublishedLeaves, commits, commit_error_by};
+ghost use Rattle.ice_store.specs.Calls.{Rose};
+ghost use Rattle.table_publish.specs.Left.{Notes};
+ghost use Rattle.commit_protocol.specs.Written.{IsWritten, IsUnwritten, CommitLeft, PublishedLeaves, IsNamingOf, commits, commit_count, commit_error_by};
 
 use crate::change::{Built, Change};
 use crate::errors::{AttemptErr, CommitErr, Committed};
@@ -145,6 +148,7 @@ fn publish_built<M: Manners, S: Store<M>, I: Ids>(
     ensures halted { Halts result (S.halted store.old) (S.halted store.new) (S.past store.new) }
     ensures committed { log.new.committed.items ≡ commits result log.old.committed.items }
     ensures left { CommitLeft (Gives (I.given ids.old) (I.given ids.new)) table.now result log.old.left.items log.new.left.items }
+    ensures noted { Since (S.past store.old) (S.past store.new) (Notes (Rose (S.faults store.old) (S.faults store.new)) (IsNamingOf (Gives (I.given ids.old) (I.given ids.new)) table.now) (commit_count result) [] log.old.left.items log.new.left.items) }
 {
     let id = ids.next();
     let version = at.version + 1;
@@ -199,6 +203,7 @@ fn attempt_on<M: Manners, S: Store<M>, I: Ids, X: Change<M>>(
     ensures halted { Halts result (S.halted store.old) (S.halted store.new) (S.past store.new) }
     ensures committed { log.new.committed.items ≡ commits result log.old.committed.items }
     ensures left { CommitLeft (Gives (I.given ids.old) (I.given ids.new)) table.now result log.old.left.items log.new.left.items }
+    ensures noted { Since (S.past store.old) (S.past store.new) (Notes (Rose (S.faults store.old) (S.faults store.new)) (IsNamingOf (Gives (I.given ids.old) (I.given ids.new)) table.now) (commit_count result) [] log.old.left.items log.new.left.items) }
 {
     if !at.meta.has_version_limit() {
         return Err(unreadable_limit(alloc, at.place));
@@ -219,6 +224,9 @@ fn attempt_on<M: Manners, S: Store<M>, I: Ids, X: Change<M>>(
 /// identifier that is drawn names the new metadata file. `Contended` comes where the next version was taken: the new file
 /// is then removed. After a store failure no further store call is made. Where nobody else acts, the answer's exact cause
 /// stands in the files at the entry and in the change's meanings (`alone`), and no other answer has its there (`exactly`).
+/// Whatever a stop leaves, from a whole table on, is whole and has the table after a prefix of the commits (`prefix`,
+/// `files`), and a published version is a successor of the one before it (`successors`). `noted` says exactly which
+/// places the log's `left` has.
 pub fn commit<M: Manners, S: Store<M>, I: Ids, X: Change<M>>(
     alloc: Global,
     store: &mut S,
@@ -238,10 +246,14 @@ pub fn commit<M: Manners, S: Store<M>, I: Ids, X: Change<M>>(
     ensures halted { Halts result (S.halted store.old) (S.halted store.new) (S.past store.new) }
     ensures committed { log.new.committed.items ≡ commits result log.old.committed.items }
     ensures left { CommitLeft (Gives (I.given ids.old) (I.given ids.new)) table.now result log.old.left.items log.new.left.items }
+    ensures noted { Since (S.past store.old) (S.past store.new) (Notes (Rose (S.faults store.old) (S.faults store.new)) (IsNamingOf (Gives (I.given ids.old) (I.given ids.new)) table.now) (commit_count result) [] log.old.left.items log.new.left.items) }
     ensures alone { IsNobody (M.allows (S.manners store.old)) → Since (S.past store.old) (S.past store.new) (λ old new. CommitVerdict (X.successor change.old) (X.same change.old) (X.refuses change.old) (Gives (I.given ids.old) (I.given ids.new)) table.now now (replay old).files result) }
     ensures exactly { IsNobody (M.allows (S.manners store.old)) → IsDecided (X.successor change.old) (X.same change.old) (X.refuses change.old) → IsOneDrawn (Gives (I.given ids.old) (I.given ids.new))
         → Since (S.past store.old) (S.past store.new) (λ old new. IsExactCommit (X.successor change.old) (X.same change.old) (X.refuses change.old) (Gives (I.given ids.old) (I.given ids.new)) table.now now result (replay old).files) }
     ensures idle { IsNobody (M.allows (S.manners store.old)) → Since (S.past store.old) (S.past store.new) (IsIdle result) }
+    ensures prefix { Since (S.past store.old) (S.past store.new) (StopsHavePrefix table.now) }
+    ensures files { Since (S.past store.old) (S.past store.new) (StopsHaveFiles table.now) }
+    ensures successors { IsNobody (M.allows (S.manners store.old)) → Since (S.past store.old) (S.past store.new) (Succeeds (X.successor change.old) table.now now result) }
 {
     match open_table::<M, S>(alloc, store, table) {
         Ok(at) => attempt_on::<M, S, I, X>(alloc, store, ids, now, table, at, change, log),

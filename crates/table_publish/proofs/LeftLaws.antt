@@ -73,14 +73,14 @@ dropped_is OnNames draft left = sym (append-nil left)
 
 -- A count that rose since a later moment rose.
 
-rose_on : (a b c : ℕ) → a ≤ b → Rose b c → Rose a c
+pub rose_on : (a b c : ℕ) → a ≤ b → Rose b c → Rose a c
 rose_on a b c le rose = omega (arith, le, rose)
 
 pub rose_later : (cause : StoreErr) (a b c : ℕ) → a ≤ b → RoseBy cause b c → RoseBy cause a c
 rose_later Failed a b c le rose = rose_on a b c le rose
 rose_later Memory a b c le rose = tt
 
-more_later : (Tried : Step → Type 0) (a b c : ℕ) (more : List Parts) → a ≤ b → IsMore (Rose b c) Tried more → IsMore (Rose a c) Tried more
+pub more_later : (Tried : Step → Type 0) (a b c : ℕ) (more : List Parts) → a ≤ b → IsMore (Rose b c) Tried more → IsMore (Rose a c) Tried more
 more_later Tried a b c more le (inl none) = inl none
 more_later Tried a b c more le (inr one) = inr (rose_on a b c le one.0, one.1)
 

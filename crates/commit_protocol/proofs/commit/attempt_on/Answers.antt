@@ -1,14 +1,19 @@
-use Rattle.std.proofs.Common.{Ok, Err, sym, ◌∙◌, subst, arith, true≢false}
+use Rattle.std.proofs.Common.{ℕ, List, [], Option, Ok, Err, refl, sym, ◌∙◌, subst, arith, true≢false}
+use Rattle.ice_store.specs.Calls.{Rose}
+use Rattle.ice_store.specs.Places.{Parts}
+use Rattle.table_history.specs.Runs.{Ran}
 use Rattle.ice_store.specs.Given.{Gives}
 use Rattle.ice_store.specs.Since.{Since}
 use Rattle.ice_store.proofs.SinceLaws.{since_start, since_then, since_turned}
 use Rattle.serde_json.specs.View.{view}
 use Rattle.table_history.specs.Versions.{number_in}
 use Rattle.table_metadata.specs.Edits.{HasVersionLimit}
-use Rattle.table_publish.specs.Stages.{Narrow, NoReach, At as Stands}
+use Rattle.table_publish.specs.Stages.{Narrow, NoReach, Exactly, At as Stands}
+use Rattle.table_publish.specs.Left.{Notes}
 use Rattle.version_open.specs.Opening.{OpenStage}
 use Rattle.commit_protocol.specs.Metadata.{IsTableOf}
-use Rattle.commit_protocol.specs.Written.{PublishedLeaves}
+use Rattle.commit_protocol.specs.Written.{PublishedLeaves, IsNamingOf, commit_count}
+use Rattle.commit_protocol.proofs.NoteLaws.{notes_none, notes_after}
 use Rattle.commit_protocol.specs.Attempts.{MakesOf, AttemptLeaves}
 use Rattle.commit_protocol.specs.declared.change.Built.{Built}
 use Rattle.commit_protocol.specs.declared.change.Built.TheVariants.{Same as Unchanged, Next}
@@ -113,3 +118,66 @@ returns-in-Err-clause-told g c =
     since_turned p0 p1 (laws.Idle_ t allows c.requires.mannered c.args.now Drawn at KO) (AttemptLeaves number Good NoReach allows successor same refuses seen Drawn t c.args.now at (Err (Attempt e)))
     c.in-Err.ensures.told
     (λ old new run. laws.refused_by t allows c.requires.mannered c.args.now Drawn at successor same refuses seen e old new limit c.in-Err.ensures.refused run)
+
+pub returns-then-not-has_version_limit-clause-noted : goal.returns-then-not-has_version_limit-clause-noted
+returns-then-not-has_version_limit-clause-noted g c =
+    let t = c.args.table.now in
+    let allows = g.M.Manners.allows (g.S.Store.manners c.args.store.now) in
+    let p0 = g.S.Store.past c.args.store.now in
+    let before = g.S.Store.faults c.args.store.now in
+    let had = c.args.log.now.left.items in
+    let Drawn = Gives (g.I.Ids.given c.args.ids.now) (g.I.Ids.given c.args.ids.now) in
+    let K = Stands (OpenStage (number_in t) c.args.at.place) in
+    since_start p0 K (Notes (Rose before before) (IsNamingOf Drawn t) 0 [] had had) c.requires.start
+    (λ old here. notes_none (number_in t) (Narrow IsTableOf t) NoReach allows (IsNamingOf Drawn t) (Rose before before) K had had old old refl (laws.stays t allows c.requires.mannered c.args.now Drawn c.args.at K old here))
+
+pub returns-in-Ok-Next-clause-noted : goal.returns-in-Ok-Next-clause-noted
+returns-in-Ok-Next-clause-noted g c =
+    let t = c.args.table.now in
+    let allows = g.M.Manners.allows (g.S.Store.manners c.args.store.now) in
+    let p0 = g.S.Store.past c.args.store.now in
+    let before = g.S.Store.faults c.args.store.now in
+    let had = c.args.log.now.left.items in
+    let K = Stands (OpenStage (number_in t) c.args.at.place) in
+    let p1 = g.S.Store.past c.attempt.new.store in
+    let p2 = g.S.Store.past c.publish_built.new.store in
+    let between = g.S.Store.faults c.attempt.new.store in
+    let now = g.S.Store.faults c.publish_built.new.store in
+    let last = g.I.Ids.given c.publish_built.new.ids in
+    let Tried = IsNamingOf (Gives (g.I.Ids.given c.args.ids.now) last) t in
+    let count = commit_count c.publish_built.result in
+    let has = c.publish_built.new.log.left.items in
+    let by_ids = subst (λ (i : Option (List ℕ)). Since p1 p2 (Notes (Rose between now) (IsNamingOf (Gives i last) t) count [] c.attempt.new.log.left.items has)) c.in-Ok-Next.ensures.drawn c.publish_built.ensures.noted in
+    let by_log = subst (λ (l : List Parts). Since p1 p2 (Notes (Rose between now) Tried count [] l has)) c.in-Ok-Next.ensures.left by_ids in
+    since_then p0 p1 p2 (Ran (number_in t) (Narrow IsTableOf t) NoReach allows (Exactly []) K) (Notes (Rose between now) Tried count [] had has) (Notes (Rose before now) Tried count [] had has) c.in-Ok-Next.ensures.told by_log
+    (λ old mid new run n. notes_after (number_in t) (Narrow IsTableOf t) NoReach allows Tried before between now c.in-Ok-Next.ensures.later K count had has old mid new run n)
+
+pub returns-in-Ok-Same-clause-noted : goal.returns-in-Ok-Same-clause-noted
+returns-in-Ok-Same-clause-noted g c =
+    let t = c.args.table.now in
+    let allows = g.M.Manners.allows (g.S.Store.manners c.args.store.now) in
+    let p0 = g.S.Store.past c.args.store.now in
+    let before = g.S.Store.faults c.args.store.now in
+    let had = c.args.log.now.left.items in
+    let Drawn = Gives (g.I.Ids.given c.args.ids.now) (g.I.Ids.given c.attempt.new.ids) in
+    let K = Stands (OpenStage (number_in t) c.args.at.place) in
+    let p1 = g.S.Store.past c.attempt.new.store in
+    let risen = Rose before (g.S.Store.faults c.attempt.new.store) in
+    let has = c.attempt.new.log.left.items in
+    since_turned p0 p1 (Ran (number_in t) (Narrow IsTableOf t) NoReach allows (Exactly []) K) (Notes risen (IsNamingOf Drawn t) 0 [] had has) c.in-Ok-Same.ensures.told
+    (λ old new run. notes_none (number_in t) (Narrow IsTableOf t) NoReach allows (IsNamingOf Drawn t) risen K had has old new c.in-Ok-Same.ensures.left run)
+
+pub returns-in-Err-clause-noted : goal.returns-in-Err-clause-noted
+returns-in-Err-clause-noted g c =
+    let t = c.args.table.now in
+    let allows = g.M.Manners.allows (g.S.Store.manners c.args.store.now) in
+    let p0 = g.S.Store.past c.args.store.now in
+    let before = g.S.Store.faults c.args.store.now in
+    let had = c.args.log.now.left.items in
+    let Drawn = Gives (g.I.Ids.given c.args.ids.now) (g.I.Ids.given c.attempt.new.ids) in
+    let K = Stands (OpenStage (number_in t) c.args.at.place) in
+    let p1 = g.S.Store.past c.attempt.new.store in
+    let risen = Rose before (g.S.Store.faults c.attempt.new.store) in
+    let has = c.attempt.new.log.left.items in
+    since_turned p0 p1 (Ran (number_in t) (Narrow IsTableOf t) NoReach allows (Exactly []) K) (Notes risen (IsNamingOf Drawn t) 0 [] had has) c.in-Err.ensures.told
+    (λ old new run. notes_none (number_in t) (Narrow IsTableOf t) NoReach allows (IsNamingOf Drawn t) risen K had has old new c.in-Err.ensures.left run)

@@ -1,13 +1,19 @@
-use Rattle.std.proofs.Common.{Err, subst}
+use Rattle.std.proofs.Common.{[], Err, refl, subst}
+use Rattle.ice_store.specs.Calls.{Rose}
 use Rattle.commit_protocol.specs.declared.errors.CommitErr.TheVariants.{Open}
 use Rattle.ice_store.specs.History.{replay}
 use Rattle.ice_store.specs.Given.{Gives}
 use Rattle.ice_store.specs.Since.{Since}
 use Rattle.ice_store.proofs.SinceLaws.{since_then, since_turned}
 use Rattle.table_history.specs.Versions.{number_in}
-use Rattle.table_publish.specs.Stages.{Narrow, NoReach}
+use Rattle.table_publish.specs.Stages.{Narrow, NoReach, Anything}
+use Rattle.table_publish.specs.Left.{Notes}
 use Rattle.commit_protocol.specs.Metadata.{IsTableOf}
-use Rattle.commit_protocol.specs.Metadata.{IsAt}
+use Rattle.commit_protocol.specs.Metadata.{IsAt, OpenErrLeaves}
+use Rattle.commit_protocol.specs.Written.{IsNamingOf, commit_count}
+use Rattle.commit_protocol.proofs.NoteLaws.{notes_none, notes_after}
+use Rattle.commit_protocol.proofs.StepLaws.{opened_idle, open_err_idle}
+use Rattle.commit_protocol.proofs.PromiseLaws.{stops_have_prefix, stops_have_files, each_succeeds}
 use Rattle.commit_protocol.specs.Attempts.{AttemptLeaves, CommitLeaves}
 use Rattle.commit_protocol.specs.Verdicts.{IsIdle, CommitVerdict, IsExactCommit}
 use Rattle.commit_protocol.proofs.CommitLaws as laws
@@ -83,3 +89,77 @@ returns-in-Err-clause-exactly g c nobody decided one_drawn =
     let result = Err (Open c.in-Err.e) in
     since_turned (g.S.Store.past c.args.store.now) (g.S.Store.past c.open_table.new.store) (λ old new. CommitVerdict successor same refuses Drawn t c.args.now (replay old).files result) (λ old new. IsExactCommit successor same refuses Drawn t c.args.now result (replay old).files) (c.in-Err.ensures.alone nobody)
     (λ old new v. λ r told w answered. one_commit_of t c.args.now successor same refuses Drawn decided one_drawn (replay old).files result r answered told v w)
+
+pub returns-in-Ok-clause-noted : goal.returns-in-Ok-clause-noted
+returns-in-Ok-clause-noted g c =
+    let t = c.args.table.now in
+    let allows = g.M.Manners.allows (g.S.Store.manners c.args.store.now) in
+    let p0 = g.S.Store.past c.args.store.now in
+    let before = g.S.Store.faults c.args.store.now in
+    let had = c.args.log.now.left.items in
+    let at = c.in-Ok.at in
+    let p1 = g.S.Store.past c.open_table.new.store in
+    let p2 = g.S.Store.past c.attempt_on.new.store in
+    let between = g.S.Store.faults c.open_table.new.store in
+    let now = g.S.Store.faults c.attempt_on.new.store in
+    let Tried = IsNamingOf (Gives (g.I.Ids.given c.args.ids.now) (g.I.Ids.given c.attempt_on.new.ids)) t in
+    let count = commit_count c.attempt_on.result in
+    let has = c.attempt_on.new.log.left.items in
+    since_then p0 p1 p2 (IsAt (number_in t) (Narrow IsTableOf t) NoReach allows t at) (Notes (Rose between now) Tried count [] had has) (Notes (Rose before now) Tried count [] had has) c.in-Ok.ensures.told c.attempt_on.ensures.noted
+    (λ old mid new opened n. notes_after (number_in t) (Narrow IsTableOf t) NoReach allows Tried before between now c.in-Ok.ensures.later Anything count had has old mid new (opened_idle (number_in t) (Narrow IsTableOf t) NoReach allows at.place at.text old mid opened.opened) n)
+
+pub returns-in-Err-clause-noted : goal.returns-in-Err-clause-noted
+returns-in-Err-clause-noted g c =
+    let t = c.args.table.now in
+    let allows = g.M.Manners.allows (g.S.Store.manners c.args.store.now) in
+    let p0 = g.S.Store.past c.args.store.now in
+    let before = g.S.Store.faults c.args.store.now in
+    let had = c.args.log.now.left.items in
+    let e = c.in-Err.e in
+    let p1 = g.S.Store.past c.open_table.new.store in
+    let risen = Rose before (g.S.Store.faults c.open_table.new.store) in
+    let Tried = IsNamingOf (Gives (g.I.Ids.given c.args.ids.now) (g.I.Ids.given c.args.ids.now)) t in
+    since_turned p0 p1 (OpenErrLeaves (number_in t) (Narrow IsTableOf t) NoReach allows t e) (Notes risen Tried 0 [] had had) c.in-Err.ensures.told
+    (λ old new r. notes_none (number_in t) (Narrow IsTableOf t) NoReach allows Tried risen Anything had had old new refl (open_err_idle (number_in t) (Narrow IsTableOf t) NoReach allows t e old new r))
+
+pub returns-in-Ok-clause-prefix : goal.returns-in-Ok-clause-prefix
+returns-in-Ok-clause-prefix g c =
+    let allows = g.M.Manners.allows (g.S.Store.manners c.args.store.now) in
+    let seen = g.X.Change.seen c.args.change.now c.attempt_on.new.change in
+    let Drawn = Gives (g.I.Ids.given c.args.ids.now) (g.I.Ids.given c.attempt_on.new.ids) in
+    stops_have_prefix c.args.table.now allows (g.X.Change.successor c.args.change.now) (g.X.Change.same c.args.change.now) (g.X.Change.refuses c.args.change.now) seen Drawn c.args.now c.attempt_on.result (g.S.Store.past c.args.store.now) (g.S.Store.past c.attempt_on.new.store) (returns-in-Ok-clause-told g c)
+
+pub returns-in-Err-clause-prefix : goal.returns-in-Err-clause-prefix
+returns-in-Err-clause-prefix g c =
+    let allows = g.M.Manners.allows (g.S.Store.manners c.args.store.now) in
+    let seen = g.X.Change.seen c.args.change.now c.args.change.now in
+    let Drawn = Gives (g.I.Ids.given c.args.ids.now) (g.I.Ids.given c.args.ids.now) in
+    stops_have_prefix c.args.table.now allows (g.X.Change.successor c.args.change.now) (g.X.Change.same c.args.change.now) (g.X.Change.refuses c.args.change.now) seen Drawn c.args.now (Err (Open c.in-Err.e)) (g.S.Store.past c.args.store.now) (g.S.Store.past c.open_table.new.store) c.in-Err.ensures.told
+
+pub returns-in-Ok-clause-files : goal.returns-in-Ok-clause-files
+returns-in-Ok-clause-files g c =
+    let allows = g.M.Manners.allows (g.S.Store.manners c.args.store.now) in
+    let seen = g.X.Change.seen c.args.change.now c.attempt_on.new.change in
+    let Drawn = Gives (g.I.Ids.given c.args.ids.now) (g.I.Ids.given c.attempt_on.new.ids) in
+    stops_have_files c.args.table.now allows (g.X.Change.successor c.args.change.now) (g.X.Change.same c.args.change.now) (g.X.Change.refuses c.args.change.now) seen Drawn c.args.now c.attempt_on.result (g.S.Store.past c.args.store.now) (g.S.Store.past c.attempt_on.new.store) (returns-in-Ok-clause-told g c)
+
+pub returns-in-Err-clause-files : goal.returns-in-Err-clause-files
+returns-in-Err-clause-files g c =
+    let allows = g.M.Manners.allows (g.S.Store.manners c.args.store.now) in
+    let seen = g.X.Change.seen c.args.change.now c.args.change.now in
+    let Drawn = Gives (g.I.Ids.given c.args.ids.now) (g.I.Ids.given c.args.ids.now) in
+    stops_have_files c.args.table.now allows (g.X.Change.successor c.args.change.now) (g.X.Change.same c.args.change.now) (g.X.Change.refuses c.args.change.now) seen Drawn c.args.now (Err (Open c.in-Err.e)) (g.S.Store.past c.args.store.now) (g.S.Store.past c.open_table.new.store) c.in-Err.ensures.told
+
+pub returns-in-Ok-clause-successors : goal.returns-in-Ok-clause-successors
+returns-in-Ok-clause-successors g c nobody =
+    let allows = g.M.Manners.allows (g.S.Store.manners c.args.store.now) in
+    let seen = g.X.Change.seen c.args.change.now c.attempt_on.new.change in
+    let Drawn = Gives (g.I.Ids.given c.args.ids.now) (g.I.Ids.given c.attempt_on.new.ids) in
+    each_succeeds c.args.table.now allows (g.X.Change.successor c.args.change.now) (g.X.Change.same c.args.change.now) (g.X.Change.refuses c.args.change.now) seen Drawn c.args.now c.attempt_on.result (g.S.Store.past c.args.store.now) (g.S.Store.past c.attempt_on.new.store) nobody (returns-in-Ok-clause-told g c)
+
+pub returns-in-Err-clause-successors : goal.returns-in-Err-clause-successors
+returns-in-Err-clause-successors g c nobody =
+    let allows = g.M.Manners.allows (g.S.Store.manners c.args.store.now) in
+    let seen = g.X.Change.seen c.args.change.now c.args.change.now in
+    let Drawn = Gives (g.I.Ids.given c.args.ids.now) (g.I.Ids.given c.args.ids.now) in
+    each_succeeds c.args.table.now allows (g.X.Change.successor c.args.change.now) (g.X.Change.same c.args.change.now) (g.X.Change.refuses c.args.change.now) seen Drawn c.args.now (Err (Open c.in-Err.e)) (g.S.Store.past c.args.store.now) (g.S.Store.past c.open_table.new.store) nobody c.in-Err.ensures.told

@@ -1,4 +1,5 @@
-use Rattle.std.proofs.Common.{◌≡◌, ◌+◌, ℕ, List, Ok, Err, sym, ap, ◌∙◌, subst}
+use Rattle.std.proofs.Common.{◌≡◌, ◌+◌, ℕ, List, [], Ok, Err, refl, sym, ap, ◌∙◌, subst}
+use Rattle.ice_store.specs.Calls.{Rose}
 use Rattle.ice_store.specs.Places.{Parts}
 use Rattle.ice_store.specs.Given.{Gives}
 use Rattle.ice_store.specs.Since.{Since}
@@ -9,7 +10,9 @@ use Rattle.table_publish.specs.Stages.{Narrow, NoReach, At as Stands}
 use Rattle.table_publish.specs.Leaves.{PublishLeaves}
 use Rattle.version_open.specs.Opening.{OpenStage}
 use Rattle.commit_protocol.specs.Metadata.{IsTableOf}
-use Rattle.commit_protocol.specs.Written.{commit_error_by, CommitLeft}
+use Rattle.table_publish.specs.Left.{IsNaming, Notes}
+use Rattle.commit_protocol.specs.Written.{commit_error_by, CommitLeft, IsNamingOf}
+use Rattle.commit_protocol.proofs.NoteLaws.{notes_none, notes_named}
 use Rattle.commit_protocol.specs.declared.errors.CommitErr.{CommitErr}
 use Rattle.commit_protocol.specs.declared.errors.CommitErr.TheVariants.{Attempt}
 use Rattle.commit_protocol.specs.declared.errors.Committed.TheVariants.{Published}
@@ -80,3 +83,47 @@ returns-clause-left g c =
     let after = c.publish.new.log.left.items in
     subst (λ (x : CommitErr). CommitLeft Drawn t (Err x) before after) (sym error)
     (laws.left_err t allows c.requires.mannered c.args.now Drawn c.args.at (view c.args.meta) c.next-id.result c.next-id.ensures c.requires.limit w is e before after c.in-Err-publish_version.ensures.left)
+
+pub returns-in-Err-clause-noted : goal.returns-in-Err-clause-noted
+returns-in-Err-clause-noted g c =
+    let t = c.args.table.now in
+    let allows = g.M.Manners.allows (g.S.Store.manners c.args.store.now) in
+    let p0 = g.S.Store.past c.args.store.now in
+    let before = g.S.Store.faults c.args.store.now in
+    let had = c.args.log.now.left.items in
+    let Drawn = Gives (g.I.Ids.given c.args.ids.now) (g.I.Ids.given c.next-id.new.self) in
+    let K = Stands (OpenStage (number_in t) c.args.at.place) in
+    since_start p0 K (Notes (Rose before before) (IsNamingOf Drawn t) 0 [] had had) c.requires.start
+    (λ old here. notes_none (number_in t) (Narrow IsTableOf t) NoReach allows (IsNamingOf Drawn t) (Rose before before) K had had old old refl (laws.stays t allows c.requires.mannered c.args.now Drawn c.args.at K old here))
+
+pub returns-in-Ok-publish_version-clause-noted : goal.returns-in-Ok-publish_version-clause-noted
+returns-in-Ok-publish_version-clause-noted g c =
+    let t = c.args.table.now in
+    let allows = g.M.Manners.allows (g.S.Store.manners c.args.store.now) in
+    let p0 = g.S.Store.past c.args.store.now in
+    let before = g.S.Store.faults c.args.store.now in
+    let had = c.args.log.now.left.items in
+    let Drawn = Gives (g.I.Ids.given c.args.ids.now) (g.I.Ids.given c.next-id.new.self) in
+    let p1 = g.S.Store.past c.publish.new.store in
+    let risen = Rose before (g.S.Store.faults c.publish.new.store) in
+    let has = c.publish.new.log.left.items in
+    let route = c.in-Ok.written.route in
+    let is = c.in-Ok.ensures.ok in
+    since_turned p0 p1 (Notes risen (IsNaming route.draft route.target) 1 [] had has) (Notes risen (IsNamingOf Drawn t) 1 [] had has) c.in-Ok-publish_version.ensures.noted
+    (λ old new n. notes_named risen Drawn t route.draft route.target c.next-id.result (c.args.at.version + 1) 1 had has old new c.next-id.ensures is.draft is.target n)
+
+pub returns-clause-noted : goal.returns-clause-noted
+returns-clause-noted g c =
+    let t = c.args.table.now in
+    let allows = g.M.Manners.allows (g.S.Store.manners c.args.store.now) in
+    let p0 = g.S.Store.past c.args.store.now in
+    let before = g.S.Store.faults c.args.store.now in
+    let had = c.args.log.now.left.items in
+    let Drawn = Gives (g.I.Ids.given c.args.ids.now) (g.I.Ids.given c.next-id.new.self) in
+    let p1 = g.S.Store.past c.publish.new.store in
+    let risen = Rose before (g.S.Store.faults c.publish.new.store) in
+    let has = c.publish.new.log.left.items in
+    let route = c.in-Ok.written.route in
+    let is = c.in-Ok.ensures.ok in
+    since_turned p0 p1 (Notes risen (IsNaming route.draft route.target) 0 [] had has) (Notes risen (IsNamingOf Drawn t) 0 [] had has) c.in-Err-publish_version.ensures.noted
+    (λ old new n. notes_named risen Drawn t route.draft route.target c.next-id.result (c.args.at.version + 1) 0 had has old new c.next-id.ensures is.draft is.target n)

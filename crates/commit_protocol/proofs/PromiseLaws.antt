@@ -1,0 +1,110 @@
+-- What every stop of a commit leaves, and what a published version succeeds.
+use Rattle.std.proofs.Common.{◌≡◌, inl, ℕ, zero, suc, List, [], ◌∷◌, ◌++◌, take, Option, Result, Ok, Err, sym, subst}
+use Rattle.serde_json.specs.Data.{Data}
+use Rattle.serde_json.specs.View.{view}
+use Rattle.ice_store.specs.Places.{Parts}
+use Rattle.ice_store.specs.History.{Disk, replay, later}
+use Rattle.ice_store.proofs.HistoryLaws.{later-later}
+use Rattle.ice_store.proofs.OthersLaws.{later-nil}
+use Rattle.ice_store.specs.declared.history.Change.{Change}
+use Rattle.ice_store.specs.declared.history.Event.{Event}
+use Rattle.ice_store.specs.declared.history.Past.{Past}
+use Rattle.ice_store.specs.declared.history.Step.{Step}
+use Rattle.table_history.specs.Versions.{number_in}
+use Rattle.table_history.specs.Commits.{standing, IsLast}
+use Rattle.table_history.specs.Steady.{IsSteady, Each, IsFreshChange}
+use Rattle.table_history.specs.Tables.{Whole, table as table_in}
+use Rattle.table_history.specs.Runs.{Ran, Along, IsSafe}
+use Rattle.table_history.proofs.Following.{standing_disk}
+use Rattle.table_publish.specs.Stages.{Narrow, NoReach, Anything}
+use Rattle.commit_protocol.specs.Metadata.{IsTableOf}
+use Rattle.commit_protocol.specs.Attempts.{CommitLeaves}
+use Rattle.commit_protocol.specs.Promises.{IsWholeAt, AtEachStop, HasPrefix, HasFiles, StopsHavePrefix, StopsHaveFiles, Succeeds}
+use Rattle.commit_protocol.specs.Verdicts.{IsNobody}
+use Rattle.commit_protocol.specs.declared.errors.AttemptErr.{AttemptErr}
+use Rattle.commit_protocol.specs.declared.errors.CommitErr.{CommitErr}
+use Rattle.commit_protocol.specs.declared.errors.Committed.{Committed}
+use Rattle.commit_protocol.specs.declared.errors.Committed.TheVariants.{Same, Published}
+use Rattle.ice_store.specs.Since.{Since}
+use Rattle.ice_store.proofs.SinceLaws.{since_turned}
+use Rattle.commit_protocol.proofs.StepLaws.{commit_steps}
+use Rattle.commit_protocol.proofs.VerdictLaws.{opening_answered}
+
+-- Stops.
+
+along_take : (K : Past → Type 0) (past : Past) (es : List Event) (n : ℕ) → Along K past es → K (later past (take n es))
+along_take K past [] zero h = subst K (sym (later-nil past)) h
+along_take K past [] (suc n) h = subst K (sym (later-nil past)) h
+along_take K past (e ∷ es) zero h = subst K (sym (later-nil past)) h.0
+along_take K past (e ∷ es) (suc n) h = subst K (later-later past (e ∷ []) (take n es)) (along_take K (later past (e ∷ [])) es n h.1)
+
+module _ (table : Parts) (allows : Past → Step → Type 0) (Made : List Step → Type 0) where
+  abbrev pub Steps : Past → Past → Type 0
+  Steps = Ran (number_in table) (Narrow IsTableOf table) NoReach allows Made Anything
+
+  module _ (old : Past) (whole : IsWholeAt table old) where
+    on_disk : (K : Disk → Type 0) → K (replay old) → K (standing (number_in table) old).disk
+    on_disk K here = subst K (sym (standing_disk (number_in table) old)) here
+
+    steady : IsSteady (number_in table) (Narrow IsTableOf table) NoReach old
+    steady = record {
+      whole = on_disk (λ d. Whole (number_in table) (Narrow IsTableOf table) d.files) whole.whole;
+      last = on_disk (λ d. IsLast ((standing (number_in table) old).acknowledged ++ (standing (number_in table) old).unacknowledged) (table_in (number_in table) d.files)) whole.last;
+      form = inl (subst (λ (cs : List Change). Each (IsFreshChange (number_in table) NoReach (standing (number_in table) old).disk.files) cs) (sym (on_disk (λ d. d.pending ≡ []) whole.at_rest)) tt);
+    }
+
+    along : (new : Past) → (run : Steps old new) → (n : ℕ) → IsSafe (number_in table) (Narrow IsTableOf table) NoReach (later old (take n run.events))
+    along new run n = along_take (IsSafe (number_in table) (Narrow IsTableOf table) NoReach) old run.events n (run.safe steady)
+
+    pub prefixes : (new : Past) → Steps old new → AtEachStop old new (HasPrefix table)
+    prefixes new run = record {
+      events = run.events;
+      is = run.is;
+      each = λ n files image. let r = (along new run n).images files image in record { count = r.count; last = r.last };
+    }
+
+    pub files : (new : Past) → Steps old new → AtEachStop old new (HasFiles table)
+    files new run = record { events = run.events; is = run.is; each = λ n found image. ((along new run n).images found image).whole }
+
+-- Successors.
+
+module _ (table : Parts) (allows : Past → Step → Type 0) (nobody : IsNobody allows) (successor : Data → Data → Type 0) (same : Data → Type 0) (refuses : Data → AttemptErr → Type 0) (seen : Data → Type 0) (Drawn : ℕ → Type 0) (now : ℕ) where
+  pub succeeds : (r : Result Committed CommitErr) (old new : Past) → CommitLeaves (number_in table) (Narrow IsTableOf table) NoReach allows successor same refuses seen Drawn table now r old new → Succeeds successor table now r old new
+  succeeds (Ok (Same v)) old new a = tt
+  succeeds (Ok (Published v)) old new a =
+      let d = a.then.3.drafted in
+      let opened = opening_answered table (Narrow IsTableOf table) NoReach allows nobody (Ok a.at) old a.mid a.opened in
+      let stage = a.then.3.left.stage in
+      record {
+        place = a.at.place;
+        last = a.at.version;
+        text = a.at.text;
+        tree = view a.at.meta;
+        base = opened.1;
+        version = a.then.0;
+        bytes = d.bytes;
+        next = d.writes.next;
+        next_is = d.writes.is;
+        spells = d.writes.spells;
+        acknowledged = stage.0;
+        behind = λ steady. stage.1 (record { steady = subst (λ (p : Past). IsSteady (number_in table) (Narrow IsTableOf table) NoReach p) (sym opened.0) steady; bytes = a.opened.opened.sealed steady });
+      }
+  succeeds (Err e) old new a = tt
+
+-- Of a commit, where its history is told.
+
+module _ (table : Parts) (allows : Past → Step → Type 0) (successor : Data → Data → Type 0) (same : Data → Type 0) (refuses : Data → AttemptErr → Type 0) (seen : Data → Type 0) (Drawn : ℕ → Type 0) (now : ℕ) (r : Result Committed CommitErr) (o a : Option Past) where
+  abbrev pub Told : Past → Past → Type 0
+  Told = CommitLeaves (number_in table) (Narrow IsTableOf table) NoReach allows successor same refuses seen Drawn table now r
+
+  steps : (old new : Past) → Told old new → Steps table allows (λ l. Unit {0}) old new
+  steps old new h = commit_steps (number_in table) (Narrow IsTableOf table) NoReach allows successor same refuses seen Drawn table now r old new h
+
+  pub stops_have_prefix : Since o a Told → Since o a (StopsHavePrefix table)
+  stops_have_prefix told = since_turned o a Told (StopsHavePrefix table) told (λ old new h whole. prefixes table allows (λ l. Unit {0}) old whole new (steps old new h))
+
+  pub stops_have_files : Since o a Told → Since o a (StopsHaveFiles table)
+  stops_have_files told = since_turned o a Told (StopsHaveFiles table) told (λ old new h whole. files table allows (λ l. Unit {0}) old whole new (steps old new h))
+
+  pub each_succeeds : IsNobody allows → Since o a Told → Since o a (Succeeds successor table now r)
+  each_succeeds nobody told = since_turned o a Told (Succeeds successor table now r) told (succeeds table allows nobody successor same refuses seen Drawn now r)
