@@ -1,5 +1,5 @@
 -- What a commit notes of the places that it leaves.
-use Rattle.std.proofs.Common.{◌≡◌, inl, inr, ℕ, ◌≤◌, List, [], ◌∷◌, ◌++◌, refl, sym, ap, ◌∙◌, subst, append-nil}
+use Rattle.std.proofs.Common.{◌≡◌, inl, inr, ℕ, ◌≤◌, List, [], ◌++◌, refl, sym, ap, ◌∙◌, subst, append-nil}
 use Rattle.ice_store.specs.Calls.{Rose}
 use Rattle.ice_store.specs.History.{later}
 use Rattle.ice_store.proofs.HistoryLaws.{later-later}

@@ -1,6 +1,6 @@
 -- Which places the pieces of a publish leave.
-use Rattle.std.proofs.Common.{◌≡◌, ◌⊎◌, inl, inr, ℕ, Bool, true, false, not, List, [], ◌∷◌, ◌++◌, take, Result, Ok, Err, refl, sym, ap, ◌∙◌, subst, append-nil, if◌then◌else◌, ◌≤◌, arith}
-use Rattle.ice_store.specs.Places.{Parts, same_place}
+use Rattle.std.proofs.Common.{◌≡◌, inl, inr, ℕ, Bool, not, List, [], ◌∷◌, ◌++◌, take, refl, sym, ap, ◌∙◌, subst, append-nil, if◌then◌else◌, ◌≤◌, arith}
+use Rattle.ice_store.specs.Places.{Parts}
 use Rattle.ice_store.proofs.FileLaws.{same_itself}
 use Rattle.ice_store.specs.declared.history.Past.{Past}
 use Rattle.ice_store.specs.History.{later}
@@ -8,7 +8,7 @@ use Rattle.ice_store.proofs.HistoryLaws.{later-later}
 use Rattle.table_history.specs.Runs.{ours}
 use Rattle.table_history.proofs.Running.{ours-append}
 use Rattle.ice_store.specs.declared.history.Step.{Step}
-use Rattle.ice_store.specs.declared.history.Step.TheVariants.{Create, Append, Seal, Rename, Remove, SyncNames}
+use Rattle.ice_store.specs.declared.history.Step.TheVariants.{Create, Append, Rename, Remove, SyncNames}
 use Rattle.ice_store.specs.declared.store.StoreErr.{StoreErr}
 use Rattle.ice_store.specs.declared.store.StoreErr.TheVariants.{Failed, Memory}
 use Rattle.table_publish.specs.Stages.{Exactly, Begun, BegunFill, Then, draft_plan, fill_plan}

@@ -6,13 +6,13 @@ use Rattle.ice_store.specs.Others.{WhereTold}
 use Rattle.ice_store.specs.Places.{Parts}
 use Rattle.ice_store.specs.Since.{Since}
 use Rattle.ice_store.proofs.SinceLaws.{since_with}
-use Rattle.ice_store.specs.History.{replay}
+use Rattle.ice_store.specs.History.{replay, later}
+use Rattle.ice_store.proofs.OthersLaws.{later-nil}
 use Rattle.ice_store.specs.declared.history.Past.{Past}
 use Rattle.ice_store.specs.declared.history.Step.{Step}
 use Rattle.ice_store.specs.declared.faults.ReadErr.TheVariants.{Missing, Damaged, Unsupported, StoreFault, Memory}
 use Rattle.table_history.specs.Tables.{GoodBy}
 use Rattle.table_history.specs.Versions.{number_in}
-use Rattle.table_history.specs.Steady.{IsSteady}
 use Rattle.table_history.specs.Runs.{Ran, ours}
 use Rattle.table_publish.specs.Stages.{Narrow, NoReach, Anything, Exactly, Partly, Reaching}
 use Rattle.table_publish.specs.declared.publish.PublishErr.TheVariants as publishes
@@ -23,12 +23,13 @@ use Rattle.commit_protocol.specs.declared.opening.At.{At}
 use Rattle.commit_protocol.specs.declared.errors.AttemptErr.TheVariants as attempts
 use Rattle.commit_protocol.specs.declared.errors.CommitErr.TheVariants.{Open, Attempt, Contended, CommitUnknown}
 use Rattle.commit_protocol.specs.declared.errors.Committed.TheVariants.{Same, Published}
+use Rattle.commit_protocol.proofs.PromiseLaws.{succeeds}
 use Rattle.commit_protocol.proofs.StepLaws.{commit_steps}
 use Rattle.commit_protocol.proofs.VerdictLaws.{opening_answered}
 use Rattle.run_answers.specs.declared.status.Status.{Status}
 use Rattle.ref_moves.specs.Moves.{Moves, IsThere, RefusesMove, HasSeen}
 use Rattle.ref_moves.specs.declared.goal.Goal.{Goal}
-use Rattle.upkeep_top.specs.Promises.{Publishes, VersionsBy, HasSteps, HasSucceeded, versions_of}
+use Rattle.upkeep_top.specs.Promises.{Publishes, VersionsBy, HasSteps, HasSucceeded, Took, DoneSteps, versions_of}
 use Rattle.upkeep_top.specs.Reports.{move_report}
 use Rattle.upkeep_top.specs.Statements.{Nobody, Did, Reports, ReportedBy, RestsBy}
 use Rattle.upkeep_top.specs.Verdicts.{End}
@@ -150,25 +151,19 @@ module _ (word : ℕ) (table : Parts) (goal : Goal) (now : ℕ) (Drawn : ℕ →
   -- a published version is a successor
   succeeded : (end : End) (old new : Past) → Leaves end old new → HasSucceeded task now end old new
   succeeded (Ok (Same v)) old new a = tt
-  succeeded (Ok (Published v)) old new a =
-      let d = a.then.3.drafted in
-      let same = same_mid a.at old a.mid a.opened in
-      let stage = a.then.3.left.stage in
-      record {
-        place = a.at.place;
-        last = a.at.version;
-        text = a.at.text;
-        tree = view a.at.meta;
-        base = table_is a.at old a.mid a.opened;
-        version = a.then.0;
-        bytes = d.bytes;
-        next = d.writes.next;
-        next_is = d.writes.is;
-        spells = d.writes.spells;
-        acknowledged = stage.0;
-        behind = λ steady. stage.1 (record { steady = subst (λ (p : Past). IsSteady number Good NoReach p) (sym same) steady; bytes = a.opened.opened.sealed steady });
-      }
+  succeeded (Ok (Published v)) old new a = succeeds table Nobody nobody (Moves goal now) (IsThere goal) (RefusesMove goal) Seen Drawn now (Ok (Published v)) old new a
   succeeded (Err e) old new a = tt
+
+  -- the steps where the work is done
+  took : (end : End) (old new : Past) → Leaves end old new → IsIdle end old new → Took (DoneSteps end) old new
+  took (Ok (Same v)) old new a idle = record { events = []; is = idle ∙ sym (later-nil old); steps = refl }
+  took (Ok (Published v)) old new a idle =
+      let d = a.then.3.drafted in
+      let run = a.then.3.left in
+      record { events = run.events; is = run.is ∙ ap (λ (p : Past). later p run.events) (same_mid a.at old a.mid a.opened); steps = (d.draft, d.target, d.bytes, run.made) }
+  took (Err e) old new a idle =
+      let run = commit_steps number Good NoReach Nobody (Moves goal now) (IsThere goal) (RefusesMove goal) Seen Drawn table now (Err e) old new a in
+      record { events = run.events; is = run.is; steps = tt }
 
   -- the report was put where the work is done
   abbrev pub PutBy : End → Option (List ℕ) → Option (List ℕ) → Status → Type 0
@@ -189,6 +184,7 @@ module _ (word : ℕ) (table : Parts) (goal : Goal) (now : ℕ) (Drawn : ℕ →
     safe = commit_steps number Good NoReach Nobody (Moves goal now) (IsThere goal) (RefusesMove goal) Seen Drawn table now end old new a;
     rests = rests end old new start a idle;
     steps = has_steps end old new a idle cause;
+    took = took end old new a idle;
     succeeded = succeeded end old new a;
     report = reported end old new status before after a put;
   }

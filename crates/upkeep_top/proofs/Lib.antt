@@ -10,3 +10,4 @@ mod SuccessorLaws
 mod RunLaws
 mod WordSteps
 mod TaskSteps
+pub mod LeftLaws

@@ -12,14 +12,17 @@ use Rattle.run_answers.specs.declared.status.Status.{Status}
 use Rattle.run_answers.specs.declared.status.Status.TheVariants.{Done, OutFault, OutOfMemory}
 use Rattle.upkeep_top.specs.Points.{Point}
 use Rattle.upkeep_top.specs.Chains.{Leads}
-use Rattle.upkeep_top.specs.Promises.{AtEachStop, HasPrefix, HasFiles}
-use Rattle.upkeep_top.specs.Runs.{IsDone, IsRefusal, RanAsked, RunsBy, Runs, Row, LastRow, ComesExactly, LastAsks, IsComplete, IsSafeRun, KeepsPrefix, KeepsFiles, EachSucceeds, TellsVersions, MayLeave}
-use Rattle.upkeep_top.specs.Statements.{Ends, Did, IsSafeFor, Halts}
+use Rattle.commit_protocol.specs.Promises.{AtEachStop, HasPrefix, HasFiles}
+use Rattle.commit_protocol.proofs.PromiseLaws.{prefixes, files}
+use Rattle.table_publish.proofs.LeftLaws.{rose_on}
+use Rattle.upkeep_top.specs.Runs.{IsDone, IsRefusal, RanAsked, RunsBy, Runs, Row, LastRow, ComesExactly, LastAsks, IsComplete, IsSafeRun, KeepsPrefix, KeepsFiles, EachSucceeds, TellsVersions, LeavesPlaces, MayLeave}
+use Rattle.upkeep_top.specs.Statements.{Ends, Did, Nobody, Any, IsSafeFor, Halts}
 use Rattle.upkeep_top.specs.Verdicts.{Verdict, IsFree, end_status}
 use Rattle.upkeep_top.specs.Words.{IsBadWord, RefusesWords}
 use Rattle.upkeep_top.specs.declared.task.Task.{Task}
 use Rattle.upkeep_top.proofs.VerdictLaws.{one_end, is_free, free_is, causes, Causes, IsStoreFault}
-use Rattle.upkeep_top.proofs.StopLaws.{safe_none, safe_run, prefixes, files}
+use Rattle.upkeep_top.proofs.StopLaws.{safe_none, safe_run}
+use Rattle.upkeep_top.proofs.LeftLaws.{leaves_places}
 use Rattle.upkeep_top.proofs.VersionLaws.{done_rests, nothing_left, tells_versions}
 use Rattle.upkeep_top.proofs.SuccessorLaws.{each_succeeds}
 use Rattle.upkeep_top.proofs.WordLaws.{one_refusal, never_refused, one_table}
@@ -83,9 +86,6 @@ faults_on (t ∷ ts) p q h =
 leads_halted : (ts : List Task) (p q : Point) → Leads IsDone ts p q → q.halted ≡ p.halted
 leads_halted [] p q h = ap (λ (x : Point). x.halted) h
 leads_halted (t ∷ ts) p q h = leads_halted ts h.0 q h.2 ∙ h.1.goes_on refl
-
-rose_on : (a b c : ℕ) → a ≤ b → Rose b c → Rose a c
-rose_on a b c le rose = omega (arith, le, rose)
 
 -- Completeness.
 
@@ -204,22 +204,25 @@ versions words status p q r empty = tells_versions words status p q empty r.how
 pub successors : (words : List (List ℕ)) (status : Status) (p q : Point) → Runs words status p q → p.committed ≡ [] → Since p.past q.past (EachSucceeds words q.committed)
 successors words status p q r empty = each_succeeds words status p q empty r.how
 
-pub left : (words : List (List ℕ)) (status : Status) (p q : Point) → Runs words status p q → (MayLeave status → ⊥) → q.left ≡ p.left
-left words status p q r none = nothing_left words status p q r.how none
+pub left : (words : List (List ℕ)) (status : Status) (p q : Point) → Runs words status p q → p.committed ≡ [] → p.left ≡ [] → Since p.past q.past (LeavesPlaces words q.committed q.left (Rose p.faults q.faults))
+left words status p q r none empty = leaves_places words status p q none empty (λ ts a b led. (faults_on ts a b led).0) r.how
+
+pub leaves_nothing : (words : List (List ℕ)) (status : Status) (p q : Point) → Runs words status p q → (MayLeave status → ⊥) → q.left ≡ p.left
+leaves_nothing words status p q r none = nothing_left words status p q r.how none
 
 -- what every stop leaves
 
 prefix_of : (words : List (List ℕ)) (old new : Past) → IsSafeRun words old new → KeepsPrefix words old new
-prefix_of words old new (inl same) table asked whole = subst (λ (x : Past). AtEachStop old x (HasPrefix table)) (sym same) (prefixes table old whole old (safe_none table old))
+prefix_of words old new (inl same) table asked whole = subst (λ (x : Past). AtEachStop old x (HasPrefix table)) (sym same) (prefixes table Nobody Any old whole old (safe_none table old))
 prefix_of words old new (inr s) table asked whole =
     let same = one_table words s.0 table s.1.0 asked.0 s.1.1 asked.1 in
-    prefixes table old whole new (subst (λ (x : Parts). IsSafeFor x old new) same s.2)
+    prefixes table Nobody Any old whole new (subst (λ (x : Parts). IsSafeFor x old new) same s.2)
 
 files_of : (words : List (List ℕ)) (old new : Past) → IsSafeRun words old new → KeepsFiles words old new
-files_of words old new (inl same) table asked whole = subst (λ (x : Past). AtEachStop old x (HasFiles table)) (sym same) (files table old whole old (safe_none table old))
+files_of words old new (inl same) table asked whole = subst (λ (x : Past). AtEachStop old x (HasFiles table)) (sym same) (files table Nobody Any old whole old (safe_none table old))
 files_of words old new (inr s) table asked whole =
     let same = one_table words s.0 table s.1.0 asked.0 s.1.1 asked.1 in
-    files table old whole new (subst (λ (x : Parts). IsSafeFor x old new) same s.2)
+    files table Nobody Any old whole new (subst (λ (x : Parts). IsSafeFor x old new) same s.2)
 
 pub keeps_prefix : (words : List (List ℕ)) (status : Status) (p q : Point) → Runs words status p q → Since p.past q.past (KeepsPrefix words)
 keeps_prefix words status p q r = since_turned p.past q.past (IsSafeRun words) (KeepsPrefix words) (safe words status p q r) (prefix_of words)

@@ -1,22 +1,11 @@
 -- What every stop of a run leaves.
-use Rattle.std.proofs.Common.{◌≡◌, inl, inr, ℕ, zero, suc, List, [], ◌∷◌, ◌++◌, take, Option, Some, None, refl, sym, subst}
+use Rattle.std.proofs.Common.{◌≡◌, inl, inr, ℕ, List, [], ◌∷◌, ◌++◌, Option, Some, None, refl, sym, subst}
 use Rattle.ice_store.specs.Places.{Parts}
 use Rattle.ice_store.specs.Others.{WhereTold}
-use Rattle.ice_store.specs.History.{Disk, replay, later}
-use Rattle.ice_store.proofs.HistoryLaws.{later-later}
-use Rattle.ice_store.proofs.OthersLaws.{later-nil}
 use Rattle.ice_store.specs.Since.{Since}
 use Rattle.ice_store.proofs.SinceLaws.{since_turned, since_then, since_start}
-use Rattle.ice_store.specs.declared.history.Change.{Change}
-use Rattle.ice_store.specs.declared.history.Event.{Event}
 use Rattle.ice_store.specs.declared.history.Past.{Past}
 use Rattle.table_history.specs.Versions.{number_in}
-use Rattle.table_history.specs.Commits.{standing}
-use Rattle.table_history.specs.Steady.{IsSteady, Each, IsFreshChange}
-use Rattle.table_history.specs.Tables.{Whole, table as table_in}
-use Rattle.table_history.specs.Commits.{IsLast}
-use Rattle.table_history.specs.Runs.{Along, IsSafe}
-use Rattle.table_history.proofs.Following.{standing_disk}
 use Rattle.table_history.proofs.Numbering.{numbering}
 use Rattle.table_history.proofs.Running.{ran_then, ran_turned, begins}
 use Rattle.table_publish.specs.Stages.{Narrow, NoReach, Anything}
@@ -26,13 +15,12 @@ use Rattle.run_answers.specs.declared.status.Status.{Status}
 use Rattle.run_answers.specs.declared.status.Status.TheVariants.{Done}
 use Rattle.upkeep_top.specs.Points.{Point}
 use Rattle.upkeep_top.specs.Chains.{Leads}
-use Rattle.upkeep_top.specs.Promises.{IsWholeAt, AtEachStop, HasPrefix, HasFiles}
 use Rattle.upkeep_top.specs.Runs.{IsDone, Ended, RunsBy, IsSafeRun}
 use Rattle.upkeep_top.specs.Statements.{Nobody, Any, IsSafeFor, Ends, Did}
 use Rattle.upkeep_top.specs.Words.{AreOf}
 use Rattle.upkeep_top.specs.declared.task.Task.{Task}
 
-told_any : (o : Option Past) → WhereTold o Anything
+pub told_any : (o : Option Past) → WhereTold o Anything
 told_any None = tt
 told_any (Some past) = tt
 
@@ -63,35 +51,3 @@ module _ (table : Parts) where
 pub safe_run : (words : List (List ℕ)) (status : Status) (p q : Point) → RunsBy words status p q → Since p.past q.past (IsSafeRun words)
 safe_run words status p q (inl r) = subst (λ (x : Point). Since p.past x.past (IsSafeRun words)) (sym r.1) (since_start p.past Anything (IsSafeRun words) (told_any p.past) (λ old any. inl refl))
 safe_run words status p q (inr r) = since_turned p.past q.past (IsSafeFor r.table) (IsSafeRun words) (ended_safe r.table r.tasks status p q r.ask.of_table r.ended) (λ old now safe. inr (r.table, (r.tasks, r.ask), safe))
-
--- Stops.
-
-along_take : (K : Past → Type 0) (past : Past) (es : List Event) (n : ℕ) → Along K past es → K (later past (take n es))
-along_take K past [] zero h = subst K (sym (later-nil past)) h
-along_take K past [] (suc n) h = subst K (sym (later-nil past)) h
-along_take K past (e ∷ es) zero h = subst K (sym (later-nil past)) h.0
-along_take K past (e ∷ es) (suc n) h = subst K (later-later past (e ∷ []) (take n es)) (along_take K (later past (e ∷ [])) es n h.1)
-
-module _ (table : Parts) (old : Past) (whole : IsWholeAt table old) where
-  on_disk : (K : Disk → Type 0) → K (replay old) → K (standing (number_in table) old).disk
-  on_disk K here = subst K (sym (standing_disk (number_in table) old)) here
-
-  pub steady : IsSteady (number_in table) (Narrow IsTableOf table) NoReach old
-  steady = record {
-    whole = on_disk (λ d. Whole (number_in table) (Narrow IsTableOf table) d.files) whole.whole;
-    last = on_disk (λ d. IsLast ((standing (number_in table) old).acknowledged ++ (standing (number_in table) old).unacknowledged) (table_in (number_in table) d.files)) whole.last;
-    form = inl (subst (λ (cs : List Change). Each (IsFreshChange (number_in table) NoReach (standing (number_in table) old).disk.files) cs) (sym (on_disk (λ d. d.pending ≡ []) whole.at_rest)) tt);
-  }
-
-  along : (new : Past) → (safe : IsSafeFor table old new) → (n : ℕ) → IsSafe (number_in table) (Narrow IsTableOf table) NoReach (later old (take n safe.events))
-  along new safe n = along_take (IsSafe (number_in table) (Narrow IsTableOf table) NoReach) old safe.events n (safe.safe steady)
-
-  pub prefixes : (new : Past) → IsSafeFor table old new → AtEachStop old new (HasPrefix table)
-  prefixes new safe = record {
-    events = safe.events;
-    is = safe.is;
-    each = λ n files image. let r = (along new safe n).images files image in record { count = r.count; last = r.last };
-  }
-
-  pub files : (new : Past) → IsSafeFor table old new → AtEachStop old new (HasFiles table)
-  files new safe = record { events = safe.events; is = safe.is; each = λ n found image. ((along new safe n).images found image).whole }

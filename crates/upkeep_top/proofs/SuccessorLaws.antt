@@ -1,8 +1,7 @@
 -- Each version that a run tells of is a successor of the one before it.
-use Rattle.std.proofs.Common.{◌≡◌, inl, inr, ℕ, List, [], ◌∷◌, ◌++◌, Option, Some, None, Ok, Err, sym, ap, ◌∙◌, subst, append-nil, append_assoc}
+use Rattle.std.proofs.Common.{◌≡◌, inl, inr, ℕ, List, [], ◌∷◌, ◌++◌, Ok, Err, sym, ap, ◌∙◌, subst, append-nil, append_assoc}
 use Rattle.ice_store.specs.Given.{Gives}
 use Rattle.ice_store.specs.Places.{Parts}
-use Rattle.ice_store.specs.Others.{WhereTold}
 use Rattle.ice_store.specs.History.{later}
 use Rattle.ice_store.proofs.HistoryLaws.{later-later}
 use Rattle.ice_store.proofs.OthersLaws.{later-nil}
@@ -23,7 +22,7 @@ use Rattle.upkeep_top.specs.Statements.{Ends, Did}
 use Rattle.upkeep_top.specs.Verdicts.{End}
 use Rattle.upkeep_top.specs.Words.{AreOf}
 use Rattle.upkeep_top.specs.declared.task.Task.{Task}
-use Rattle.upkeep_top.proofs.StopLaws.{front_of}
+use Rattle.upkeep_top.proofs.StopLaws.{front_of, told_any}
 
 abbrev pub Later : Past → Past → Type 0
 Later old now = (events : List Event) × (now ≡ later old events)
@@ -33,10 +32,6 @@ later_none old = ([], sym (later-nil old))
 
 later_then : (old mid new : Past) → Later old mid → Later mid new → Later old new
 later_then old mid new a b = (a.0 ++ b.0, b.1 ∙ ap (λ (p : Past). later p b.0) a.1 ∙ later-later old a.0 b.0)
-
-told_any : (o : Option Past) → WhereTold o Anything
-told_any None = tt
-told_any (Some past) = tt
 
 module _ (words : List (List ℕ)) where
   one_right : (v : ℕ) (old mid new : Past) → PublishedBy words v old mid → Later mid new → PublishedBy words v old new

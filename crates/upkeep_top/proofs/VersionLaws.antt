@@ -1,5 +1,5 @@
 -- Which versions a run tells of, what they are successors of, and what it leaves.
-use Rattle.std.proofs.Common.{◌≡◌, ◌⊎◌, inl, inr, ℕ, Bool, true, false, List, [], ◌∷◌, ◌++◌, Option, Some, None, Ok, Err, refl, sym, ap, ◌∙◌, subst, append-nil, append_assoc}
+use Rattle.std.proofs.Common.{◌≡◌, ◌⊎◌, inl, inr, ℕ, Bool, true, false, List, [], ◌∷◌, ◌++◌, Ok, Err, refl, sym, ap, ◌∙◌, subst, append-nil, append_assoc}
 use Rattle.ice_store.specs.Places.{Parts}
 use Rattle.ice_store.specs.Given.{Gives}
 use Rattle.ice_store.specs.Others.{WhereTold}
@@ -32,7 +32,7 @@ use Rattle.upkeep_top.specs.Verdicts.{End}
 use Rattle.upkeep_top.specs.Words.{AreOf}
 use Rattle.upkeep_top.specs.declared.task.Task.{Task}
 use Rattle.upkeep_top.proofs.StepLaws.{publishes_then, publishes_none}
-use Rattle.upkeep_top.proofs.StopLaws.{front_of}
+use Rattle.upkeep_top.proofs.StopLaws.{front_of, told_any}
 
 -- A statement that is Done.
 
@@ -111,7 +111,7 @@ pub no_output_is : (word : ℕ) (e : CommitErr) (status : Status) → status ≡
 no_output_is word e status is output = absurd (cc (ap is_output (sym output ∙ is), no_output word e))
 
 -- its work is done
-done_is : (word : ℕ) (end : End) → AnswersBy word end Done → (c : Committed) × (end ≡ Ok c)
+pub done_is : (word : ℕ) (end : End) → AnswersBy word end Done → (c : Committed) × (end ≡ Ok c)
 done_is word (Ok c) e = (c, refl)
 done_is word (Err e) s = absurd (cc (ap is_done s, not_done word e))
 
@@ -128,7 +128,7 @@ left_by : (Drawn : ℕ → Type 0) (table : Parts) (end : End) (c : Committed) (
 left_by Drawn table end c old new is left = subst (λ (x : End). CommitLeft Drawn table x old new) is left
 
 -- and nothing is left
-leads_left : (ts : List Task) (p q : Point) → Leads IsDone ts p q → q.left ≡ p.left
+pub leads_left : (ts : List Task) (p q : Point) → Leads IsDone ts p q → q.left ≡ p.left
 leads_left [] p q h = ap (λ (x : Point). x.left) h
 leads_left (t ∷ ts) p q h =
     let e = h.1 in
@@ -199,10 +199,6 @@ done_adds old new versions (inr (inr a)) = absurd (cc (a.1))
 -- of several
 abbrev pub AllTold : Parts → List ℕ → List ℕ → Past → Past → Type 0
 AllTold table before after old now = (versions : List ℕ) × Publishes (number_in table) old now versions × (after ≡ before ++ versions)
-
-told_any : (o : Option Past) → WhereTold o Anything
-told_any None = tt
-told_any (Some past) = tt
 
 leads_told : (table : Parts) (ts : List Task) (p q : Point) → AreOf table ts → Leads IsDone ts p q → Since p.past q.past (AllTold table p.committed q.committed)
 leads_told table [] p q of_table h =

@@ -1,5 +1,5 @@
 -- What a run does, and when each of its statuses comes.
-use Rattle.std.specs.Prelude.{◌≡◌, ◌⊎◌, ℕ, List, [], ◌∷◌, ◌++◌, Option}
+use Rattle.std.specs.Prelude.{◌≡◌, ◌⊎◌, ℕ, List, [], ◌∷◌, ◌++◌, Option, length}
 use Rattle.ice_store.specs.Places.{Parts}
 use Rattle.ice_store.specs.Given.{Gives}
 use Rattle.ice_store.specs.History.{replay, later}
@@ -7,12 +7,16 @@ use Rattle.ice_store.specs.Since.{Since}
 use Rattle.ice_store.specs.declared.history.Event.{Event}
 use Rattle.ice_store.specs.declared.history.Past.{Past}
 use Rattle.table_history.specs.Versions.{number_in}
+use Rattle.commit_protocol.specs.Promises.{StopsHavePrefix, StopsHaveFiles}
 use Rattle.commit_protocol.specs.Verdicts.{IsOneDrawn}
+use Rattle.commit_protocol.specs.Written.{draft_at, version_at}
+use Rattle.table_publish.specs.Left.{IsNaming, Leaves}
+use Rattle.ice_store.specs.declared.history.Step.{Step}
 use Rattle.run_answers.specs.declared.status.Status.{Status}
 use Rattle.run_answers.specs.declared.status.Status.TheVariants.{Done, StoreFault, CommitUnknown, OutOfMemory}
 use Rattle.upkeep_top.specs.Chains.{Leads}
 use Rattle.upkeep_top.specs.Points.{Point}
-use Rattle.upkeep_top.specs.Promises.{Publishes, SucceedsBy, IsWholeAt, AtEachStop, HasPrefix, HasFiles}
+use Rattle.upkeep_top.specs.Promises.{Publishes, SucceedsBy}
 use Rattle.upkeep_top.specs.Statements.{Ends, IsSafeFor}
 use Rattle.upkeep_top.specs.Verdicts.{Verdict, IsFree}
 use Rattle.upkeep_top.specs.Words.{Ask, RefusesWords}
@@ -94,11 +98,11 @@ IsSafeRun words old new = (new ≡ old) ⊎ ((table : Parts) × AskOf words tabl
 
 -- whatever a stop of the run leaves, from a whole table on: its table is the last of a prefix of the commits, a prefix that holds every acknowledged one
 abbrev pub KeepsPrefix : List (List ℕ) → Past → Past → Type 0
-KeepsPrefix words old new = (table : Parts) → AskOf words table → IsWholeAt table old → AtEachStop old new (HasPrefix table)
+KeepsPrefix words old new = (table : Parts) → AskOf words table → StopsHavePrefix table old new
 
 -- and it is whole
 abbrev pub KeepsFiles : List (List ℕ) → Past → Past → Type 0
-KeepsFiles words old new = (table : Parts) → AskOf words table → IsWholeAt table old → AtEachStop old new (HasFiles table)
+KeepsFiles words old new = (table : Parts) → AskOf words table → StopsHaveFiles table old new
 
 -- a statement of the words published this version, as a successor of the one before it
 pub record PublishedBy (words : List (List ℕ)) (v : ℕ) (old new : Past) : Type 0 where
@@ -126,6 +130,14 @@ TellsBy status committed versions = (versions ≡ committed) ⊎ (((v : ℕ) × 
 
 abbrev pub TellsVersions : List (List ℕ) → Status → List ℕ → Past → Past → Type 0
 TellsVersions words status committed old new = ((new ≡ old) × (committed ≡ [])) ⊎ ((table : Parts) × AskOf words table × ((versions : List ℕ) × Publishes (number_in table) old new versions × TellsBy status committed versions))
+
+-- a step that names a new metadata file of the table, under a name of its own or a version's
+abbrev pub IsNamingIn : Parts → Step → Type 0
+IsNamingIn table step = (id : ℕ) × (version : ℕ) × IsNaming (draft_at table id) (version_at table version) step
+
+-- the places that are left are those that the run created and neither removed nor renamed to a version that it tells of; beside them stands one that a failed step names, where the count of faults rose
+abbrev pub LeavesPlaces : List (List ℕ) → List ℕ → List Parts → Type 0 → Past → Past → Type 0
+LeavesPlaces words committed left Risen old new = ((new ≡ old) × (left ≡ [])) ⊎ ((table : Parts) × AskOf words table × Leaves Risen (IsNamingIn table) (length committed) [] left old new)
 
 -- a status after which places may have been left
 abbrev pub MayLeave : Status → Type 0

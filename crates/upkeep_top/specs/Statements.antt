@@ -12,11 +12,12 @@ use Rattle.ice_store.specs.declared.history.Past.{Past}
 use Rattle.ice_store.specs.declared.history.Step.{Step}
 use Rattle.table_history.specs.Runs.{Ran}
 use Rattle.table_history.specs.Versions.{number_in}
+use Rattle.table_publish.specs.Left.{Notes}
 use Rattle.table_publish.specs.Stages.{Narrow, NoReach, Anything}
 use Rattle.commit_protocol.specs.Causes.{CommitRose}
 use Rattle.commit_protocol.specs.Metadata.{IsTableOf}
 use Rattle.commit_protocol.specs.Verdicts.{IsIdle}
-use Rattle.commit_protocol.specs.Written.{CommitLeft, commits}
+use Rattle.commit_protocol.specs.Written.{CommitLeft, IsNamingOf, commits, commit_count}
 use Rattle.run_answers.specs.Answers.{status_of}
 use Rattle.run_answers.specs.declared.status.Status.{Status}
 use Rattle.run_answers.specs.declared.status.Status.TheVariants.{Done, UnknownSnapshot, OutFault, OutOfMemory}
@@ -24,7 +25,7 @@ use Rattle.ref_moves.specs.Ancestors.{Lists}
 use Rattle.ref_moves.specs.declared.ancestors.Ancestor.{Ancestor}
 use Rattle.table_metadata.specs.declared.cause.EditErr.TheVariants.{UnknownSnapshot as Lacks}
 use Rattle.upkeep_top.specs.Points.{Point}
-use Rattle.upkeep_top.specs.Promises.{HasSucceeded, HasSteps}
+use Rattle.upkeep_top.specs.Promises.{HasSucceeded, HasSteps, Took, DoneSteps}
 use Rattle.upkeep_top.specs.Reports.{Says, list_report}
 use Rattle.upkeep_top.specs.Verdicts.{End, OnTable, TaskVerdict}
 use Rattle.upkeep_top.specs.declared.task.Task.{Task}
@@ -77,6 +78,7 @@ pub record Did (task : Task) (now : ℕ) (Drawn : ℕ → Type 0) (end : End) (s
   pub safe : IsSafeFor task.table old new
   pub rests : RestsBy end new
   pub steps : HasSteps task.table end old new
+  pub took : Took (DoneSteps end) old new
   pub succeeded : HasSucceeded task now end old new
   pub report : ReportedBy task before after status (replay old).files end
 
@@ -93,6 +95,7 @@ pub record Ends (task : Task) (status : Status) (p q : Point) : Type 0 where
   pub did : Since p.past q.past (Did task now (Gives p.identifiers q.identifiers) end status p.output q.output)
   pub committed : q.committed ≡ commits end p.committed
   pub left : CommitLeft (Gives p.identifiers q.identifiers) task.table end p.left q.left
+  pub noted : Since p.past q.past (Notes (Rose p.faults q.faults) (IsNamingOf (Gives p.identifiers q.identifiers) task.table) (commit_count end) [] p.left q.left)
   pub faults : CommitRose end p.faults q.faults
   pub later : p.faults ≤ q.faults
   pub output_faults : status ≡ OutFault → Rose p.output_faults q.output_faults

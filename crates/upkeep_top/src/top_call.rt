@@ -11,7 +11,7 @@ ghost use Rattle.run_answers.specs.Messages.{message_line};
 ghost use Rattle.run_answers.specs.Puts.{TakesPrefix, TakesAll};
 ghost use Rattle.run_answers.specs.declared.status.Status.{Status as TheStatus};
 ghost use Rattle.upkeep_top.specs.Points.{point};
-ghost use Rattle.upkeep_top.specs.Runs.{Ended, Runs, ComesExactly, IsComplete, IsSafeRun, KeepsPrefix, KeepsFiles, EachSucceeds, TellsVersions, MayLeave};
+ghost use Rattle.upkeep_top.specs.Runs.{Ended, Runs, ComesExactly, IsComplete, IsSafeRun, KeepsPrefix, KeepsFiles, EachSucceeds, TellsVersions, LeavesPlaces, MayLeave};
 ghost use Rattle.upkeep_top.specs.Statements.{Halts};
 ghost use Rattle.upkeep_top.specs.Words.{RefusesWords};
 ghost use Rattle.upkeep_top.specs.declared.task.Task.{Task as TheTask};
@@ -123,7 +123,8 @@ pub fn run<R: AllocGlobal, S: Store<Alone>, C: Clock, I: Ids, O: Sink, X: Sink>(
     ensures files { Since (S.past store.old) (S.past store.new) (KeepsFiles words.now) }
     ensures successors { Since (S.past store.old) (S.past store.new) (EachSucceeds words.now result.committed) }
     ensures committed { Since (S.past store.old) (S.past store.new) (TellsVersions words.now result.status result.committed) }
-    ensures left { (MayLeave result.status → ⊥) → result.left ≡ [] }
+    ensures left { Since (S.past store.old) (S.past store.new) (LeavesPlaces words.now result.committed result.left (Rose (S.faults store.old) (S.faults store.new))) }
+    ensures nothing_left { (MayLeave result.status → ⊥) → result.left ≡ [] }
     ensures rests { result.status ≡ Status.Done → WhereTold (S.past store.new) (Stands (λ d. d.pending ≡ [])) }
     ensures halted { Halts (S.halted store.old) (S.halted store.new) (S.past store.new) }
     ensures message { TakesPrefix (X.contents err.old) (X.contents err.new) (message_line result.status) }

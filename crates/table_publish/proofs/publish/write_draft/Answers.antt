@@ -88,7 +88,7 @@ returns-in-Err-clause-left g c =
     let e = c.in-Err.e in
     let Left : Bool → Past → Past → Type 0 = λ is_made. Leaves (Rose before now) (IsNaming x.draft x.target) 0 [] (draft_if is_made x.draft) in
     let left = since_turned p0 p1 (RR x (Unmade x.draft e.cause) Anything) (Left (is_failed e.cause)) c.in-Err.ensures.told
-        (λ old new run. leaves_by x before now (Unmade x.draft e.cause) Anything 0 [] (draft_if (is_failed e.cause) x.draft) (unmade_left x.draft x.target x.bytes before now e.cause c.in-Err.ensures.cause) old new run) in
+    (λ old new run. leaves_by x before now (Unmade x.draft e.cause) Anything 0 [] (draft_if (is_failed e.cause) x.draft) (unmade_left x.draft x.target x.bytes before now e.cause c.in-Err.ensures.cause) old new run) in
     let is : is_failed e.cause ≡ c.stopped_at-in-Err.result.is_made = sym (ap (λ (u : Unwritten). u.is_made) c.stopped_at-in-Err.ensures ∙ c.is_failure.ensures) in
     subst (λ (b : Bool). Since p0 p1 (Left b)) is left
 
@@ -105,7 +105,7 @@ returns-in-Err-fill_draft-clause-left g c =
     let Told1 : Past → Past → Type 0 = RR x (Exactly (Create x.draft ∷ [])) (KD x Creating false []) in
     let t1 = subst (λ (r : Made). Since p0 p1 (MakeLeaves x.number x.Good x.Reached x.allows x.base x.target x.draft (Ok r))) c.in-Ok-New.field-0-is c.in-Ok-New.ensures.told in
     let left = since_then p0 p1 p2 Told1 (RR x (BegunFill x.draft x.bytes) Anything) (Left true) t1
-        (subst (λ m. Since p1 p2 (FillLeaves x.number x.Good x.Reached (g.M.Manners.allows m) x.base x.target x.draft x.bytes (Err e))) c.make_draft.ensures.manners c.in-Err-fill_draft.ensures.told)
-        (λ old mid new a b. leaves_by x before now (Then (Create x.draft ∷ []) (BegunFill x.draft x.bytes)) Anything 0 [] (x.draft ∷ []) (unfilled_left x.draft x.target x.bytes before now) old new
-        (calls.join_then x old mid new (Create x.draft ∷ []) (BegunFill x.draft x.bytes) (KD x Creating false []) a b)) in
+    (subst (λ m. Since p1 p2 (FillLeaves x.number x.Good x.Reached (g.M.Manners.allows m) x.base x.target x.draft x.bytes (Err e))) c.make_draft.ensures.manners c.in-Err-fill_draft.ensures.told)
+    (λ old mid new a b. leaves_by x before now (Then (Create x.draft ∷ []) (BegunFill x.draft x.bytes)) Anything 0 [] (x.draft ∷ []) (unfilled_left x.draft x.target x.bytes before now) old new
+    (calls.join_then x old mid new (Create x.draft ∷ []) (BegunFill x.draft x.bytes) (KD x Creating false []) a b)) in
     subst (λ (u : Unwritten). Since p0 p2 (Left u.is_made)) (sym c.stopped_at-in-Err-fill_draft.ensures) left

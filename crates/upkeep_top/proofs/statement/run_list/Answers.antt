@@ -17,6 +17,7 @@ use Rattle.upkeep_top.specs.declared.task.Task.{Task}
 use Rattle.upkeep_top.specs.declared.task.Work.{Work}
 use Rattle.upkeep_top.specs.declared.task.Work.TheVariants.{List as Listing}
 use Rattle.upkeep_top.proofs.ListLaws.{since_still, did_list, did_refuse, did_stop, did_not_open}
+use Rattle.upkeep_top.proofs.LeftLaws.{nothing_noted}
 use Rattle.upkeep_top.proofs.VersionLaws.{not_done_is, no_output_is}
 use Rattle.upkeep_top.proofs.statement.run_list.Goals as goal
 
@@ -50,6 +51,7 @@ returns-in-Ok g c =
         did = did_by (Ok (Same at.version)) (λ old rest is. did_list w.word w.table c.args.given now Drawn status before after old at.place at.version at.text (view at.meta) is rest rows.0 rows.1 rows.2);
         committed = refl;
         left = refl;
+        noted = nothing_noted p0 p1 still _ _ c.args.log.now.left.items;
         faults = tt;
         later = e.later;
         output_faults = c.list_on.ensures.cause;
@@ -65,6 +67,7 @@ returns-in-Ok g c =
         did = did_by (Err (Attempt (Refused (UnknownSnapshot lacks.0)))) (λ old rest is. did_refuse w.word w.table c.args.given now Drawn status before after old at.place at.version at.text (view at.meta) is lacks.0 lacks.1 lacks.3);
         committed = refl;
         left = refl;
+        noted = nothing_noted p0 p1 still _ _ c.args.log.now.left.items;
         faults = tt;
         later = e.later;
         output_faults = c.list_on.ensures.cause;
@@ -80,6 +83,7 @@ returns-in-Ok g c =
         did = did_by (Err (Attempt (Read Memory))) (λ old rest is. did_stop w.word w.table c.args.given now Drawn status before after old memory.1);
         committed = refl;
         left = inl refl;
+        noted = nothing_noted p0 p1 still _ _ c.args.log.now.left.items;
         faults = tt;
         later = e.later;
         output_faults = c.list_on.ensures.cause;
@@ -117,6 +121,7 @@ returns-in-Err g c =
           (since_still p0 (λ past. (replay past).pending ≡ []) Opened (Did made now Drawn end status out out) c.requires.start opened (λ old rest is. did_not_open w.word w.table c.args.given now Drawn status out out old c.in-Err.e is refl));
       committed = refl;
       left = refl;
+      noted = nothing_noted p0 p1 still _ _ c.args.log.now.left.items;
       faults = e.cause;
       later = e.later;
       output_faults = λ d. absurd (no_output_is w.word (Open c.in-Err.e) status c.status_of_open.ensures d);

@@ -19,6 +19,7 @@ use Rattle.upkeep_top.specs.declared.task.Work.{Work}
 use Rattle.upkeep_top.specs.declared.task.Work.TheVariants.{Move}
 use Rattle.upkeep_top.proofs.EndLaws.{did_at}
 use Rattle.upkeep_top.proofs.ListLaws.{did_nothing}
+use Rattle.upkeep_top.proofs.LeftLaws.{nothing_noted}
 use Rattle.upkeep_top.proofs.VersionLaws.{not_done_is, no_output_is}
 use Rattle.upkeep_top.proofs.statement.run_move.Goals as goal
 
@@ -38,9 +39,10 @@ returns-in_default g c =
       moment = c.now_ms-now.ensures.given;
       end = end;
       answers = refl;
-      did = since_start (g.S.Store.past c.args.store.now) (λ past. (replay past).pending ≡ []) does c.requires.start (λ old rest. did_nothing made now Drawn end OutOfMemory out out old old refl tt tt tt (inl refl) tt refl);
+      did = since_start (g.S.Store.past c.args.store.now) (λ past. (replay past).pending ≡ []) does c.requires.start (λ old rest. did_nothing made now Drawn end OutOfMemory out out old old refl tt tt tt (inl refl) tt tt refl);
       committed = refl;
       left = inl refl;
+      noted = nothing_noted (g.S.Store.past c.args.store.now) (g.S.Store.past c.args.store.now) refl _ _ c.args.log.now.left.items;
       faults = tt;
       later = omega arith;
       output_faults = λ e. absurd (cc (e));
@@ -77,6 +79,7 @@ returns-in-Ok-commit_change g c =
       did = did_at w.word w.table r.goal now Drawn s.previous s.id (λ (tree : Data). (s.goal ≡ r.goal) × HasSeen r.goal tree s.previous s.id) (λ tree h. h.1) r.now c.new-change.ensures.now end status before after p0 p1 c.requires.start e.told (e.alone (λ past step h. h)) (e.idle (λ past step h. h)) put;
       committed = e.committed;
       left = e.left;
+      noted = e.noted;
       faults = e.cause;
       later = e.later;
       output_faults = c.put_report.ensures.cause;
@@ -111,6 +114,7 @@ returns g c =
       did = did_at w.word w.table r.goal now Drawn s.previous s.id (λ (tree : Data). (s.goal ≡ r.goal) × HasSeen r.goal tree s.previous s.id) (λ tree h. h.1) r.now c.new-change.ensures.now end status out out p0 p1 c.requires.start e.told (e.alone (λ past step h. h)) (e.idle (λ past step h. h)) refl;
       committed = e.committed;
       left = e.left;
+      noted = e.noted;
       faults = e.cause;
       later = e.later;
       output_faults = λ d. absurd (no_output_is w.word c.in-Err.e status c.status_of_error.ensures d);

@@ -67,7 +67,10 @@ pub returns-clause-committed : goal.returns-clause-committed
 returns-clause-committed g c = laws.versions _ _ _ _ c.run_words-outcome.ensures.told refl
 
 pub returns-clause-left : goal.returns-clause-left
-returns-clause-left g c = λ none. laws.left _ _ _ _ c.run_words-outcome.ensures.told none
+returns-clause-left g c = laws.left _ _ _ _ c.run_words-outcome.ensures.told refl refl
+
+pub returns-clause-nothing_left : goal.returns-clause-nothing_left
+returns-clause-nothing_left g c = λ none. laws.leaves_nothing _ _ _ _ c.run_words-outcome.ensures.told none
 
 pub returns-clause-rests : goal.returns-clause-rests
 returns-clause-rests g c = λ is. laws.rests _ _ _ _ c.run_words-outcome.ensures.told is
