@@ -9,7 +9,7 @@ use avro_container::{Block, Header, next_block, read_header, write_block};
 use avro_datum::{Datum, DatumErr, decode, encode, skip};
 use avro_schema::{Schema, read_schema};
 use serde_json::Value;
-use std::alloc::Global;
+use std::alloc::{AllocError, Global};
 use std::fmt::Debug;
 
 /// A block is closed after the row with which its bytes, or its rows, reach this number.
@@ -55,6 +55,13 @@ fn unread(e: DatumErr) -> anyhow::Error {
     anyhow!("{e:?}")
 }
 
+// The same for want of memory.
+#[cold]
+#[inline(never)]
+fn no_memory() -> anyhow::Error {
+    anyhow::Error::from(AllocError)
+}
+
 fn decoded_in(alloc: Global, schema: &Schema, body: &[u8], block: &Block) -> Result<()> {
     let mut at = block.from;
     for _ in 0..block.count {
@@ -84,7 +91,10 @@ pub fn decoded(alloc: Global, file: &Container, bytes: &[u8]) -> Result<u64> {
 fn skipped_in(schema: &Schema, body: &[u8], block: &Block) -> Result<()> {
     let mut at = block.from;
     for _ in 0..block.count {
-        at = told(skip(schema, body, at))?;
+        match skip(schema, body, at) {
+            Ok(end) => at = end,
+            Err(e) => return Err(unread(DatumErr::from(e))),
+        }
     }
     Ok(())
 }
@@ -140,7 +150,9 @@ fn put(blocks: &mut Blocks, file: &Container, row: &Datum) -> Result<()>
     ensures bytes { OnOk result (length blocks.new.body.items < 64000) }
     ensures rows { OnOk result (blocks.new.count < 64000) }
 {
-    encode(&file.schema, row, &mut blocks.body)?;
+    if encode(&file.schema, row, &mut blocks.body).is_err() {
+        return Err(no_memory());
+    }
     blocks.count += 1;
     if blocks.body.len() >= BLOCK || blocks.count >= BLOCK as u64 {
         close(blocks, &file.header.sync)?;

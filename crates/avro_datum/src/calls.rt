@@ -15,6 +15,7 @@ use crate::skipping::past;
 use avro_schema::Schema;
 use std::alloc::{AllocError, Global};
 
+#[inline(always)]
 fn value_from(
     alloc: Global,
     schema: &Schema,
@@ -30,6 +31,7 @@ fn value_from(
 }
 
 /// The value that begins at `at`, and where it ends. An `at` past the end reads as at the end.
+#[inline(always)]
 pub fn decode(
     alloc: Global,
     schema: &Schema,
@@ -45,6 +47,7 @@ pub fn decode(
     value_from(alloc, schema, bytes, at)
 }
 
+#[inline(always)]
 fn past_from(schema: &Schema, bytes: &[u8], at: usize) -> Result<usize, SkipErr>
     ensures { Ends bytes.now result (read (form_of schema.now) (drop at bytes.now)) }
 {
@@ -55,6 +58,7 @@ fn past_from(schema: &Schema, bytes: &[u8], at: usize) -> Result<usize, SkipErr>
 }
 
 /// Where the value ends that begins at `at`. It ends where `decode` ends, and refuses as `decode` does.
+#[inline(always)]
 pub fn skip(schema: &Schema, bytes: &[u8], at: usize) -> Result<usize, SkipErr>
     ensures found { IfOk result (λ end. (d : Datum) × IsSpelledAt (form_of schema.now) d bytes.now at end) }
     ensures none { OnErr result (NoneAt (form_of schema.now) bytes.now at) }

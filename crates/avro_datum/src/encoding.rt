@@ -14,6 +14,7 @@ use avro_container::write_long;
 use avro_schema::{Field, Schema, Text};
 use std::alloc::AllocError;
 
+#[inline(always)]
 fn put_long(n: i64, to: &mut Vec<u8>) -> Result<(), AllocError>
     ensures ok { OnOk result (to.new.items ≡ to.old.items ++ written_long n) }
     ensures grows { Grows to.old.items to.new.items }
@@ -21,6 +22,7 @@ fn put_long(n: i64, to: &mut Vec<u8>) -> Result<(), AllocError>
     write_long(n, to)
 }
 
+#[inline(always)]
 fn put_count(n: u64, to: &mut Vec<u8>) -> Result<(), AllocError>
     requires { n < 9223372036854775808 }
     ensures ok { OnOk result (to.new.items ≡ to.old.items ++ written_long (pos n)) }
@@ -41,6 +43,7 @@ fn put_truth(found: bool, to: &mut Vec<u8>) -> Result<(), AllocError>
     Ok(())
 }
 
+#[inline(never)]
 fn put_text(text: &[u8], to: &mut Vec<u8>) -> Result<(), AllocError>
     ensures ok { OnOk result (to.new.items ≡ to.old.items ++ written_text text.now) }
     ensures grows { Grows to.old.items to.new.items }

@@ -29,6 +29,7 @@ fn past_string(bytes: &[u8], at: usize) -> Result<usize, SkipErr>
 }
 
 #[cycle(skip)]
+#[inline(always)]
 #[tactic(auto, unfolding(crate::specs::Reading::read))]
 pub(crate) fn past(schema: &Schema, bytes: &[u8], at: usize) -> Result<usize, SkipErr>
     requires { at ≤ length bytes.now }
@@ -89,6 +90,7 @@ pub(crate) fn past(schema: &Schema, bytes: &[u8], at: usize) -> Result<usize, Sk
 }
 
 #[cycle(skip)]
+#[inline(never)]
 #[tactic(auto, unfolding(crate::specs::Reading::read))]
 fn past_all(fields: &[Field], bytes: &[u8], at: usize) -> Result<usize, SkipErr>
     requires { at ≤ length bytes.now }
@@ -102,6 +104,7 @@ fn past_all(fields: &[Field], bytes: &[u8], at: usize) -> Result<usize, SkipErr>
 }
 
 #[cycle(skip)]
+#[inline(never)]
 #[tactic(auto, using(crate::proofs::Schemas::count_branches, crate::proofs::Schemas::nth_branch), unfolding(crate::specs::Reading::read))]
 fn past_one(branches: &[Schema], bytes: &[u8], at: usize) -> Result<usize, SkipErr>
     requires { at ≤ length bytes.now }
@@ -113,6 +116,7 @@ fn past_one(branches: &[Schema], bytes: &[u8], at: usize) -> Result<usize, SkipE
 }
 
 #[cycle(skip)]
+#[inline(never)]
 fn past_blocks(item: &Schema, bytes: &[u8], at: usize) -> Result<usize, SkipErr>
     requires { at ≤ length bytes.now }
     ensures { Ends bytes.now result (blocks_at causes (read (form_of item.now)) (suc (length (drop at bytes.now))) most_items (drop at bytes.now)) }
@@ -155,6 +159,7 @@ fn past_some(item: &Schema, count: u64, bytes: &[u8], at: usize) -> Result<usize
 }
 
 #[cycle(skip)]
+#[inline(never)]
 fn past_pair_blocks(inner: &Schema, bytes: &[u8], at: usize) -> Result<usize, SkipErr>
     requires { at ≤ length bytes.now }
     ensures { Ends bytes.now result (blocks_at causes (entry_at (read (form_of inner.now))) (suc (length (drop at bytes.now))) most_items (drop at bytes.now)) }
