@@ -69,6 +69,7 @@ pub fn skip(schema: &Schema, bytes: &[u8], at: usize) -> Result<usize, SkipErr>
 }
 
 /// Writes the written spelling of the value at the end: shortest numbers, and arrays and maps in at most one block.
+#[inline(always)]
 pub fn encode(schema: &Schema, datum: &Datum, to: &mut Vec<u8>) -> Result<(), AllocError>
     requires { IsOf (form_of schema.now) datum.now }
     ensures written { OnOk result (to.new.items ≡ to.old.items ++ written (form_of schema.now) datum.now) }

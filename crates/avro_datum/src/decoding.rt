@@ -1,7 +1,7 @@
 //! Values read.
 
 ghost use Rattle.std.specs.Prelude.{◌≡◌, IfOk, OnOk, ◌<◌, ◌≤◌, ◌+◌, ◌-◌, suc, length, drop, map, vec_len, vec_capacity};
-ghost use Rattle.avro_schema.specs.Form.{array as of_array, pairs as of_pairs, fields as of_fields, union, form_of, field_form, forms_of};
+ghost use Rattle.avro_schema.specs.Form.{boolean as of_boolean, int as of_int, long as of_long, float4 as of_float4, float8 as of_float8, bytes as of_bytes, string as of_string, fixed as of_fixed, choice as of_choice, array as of_array, pairs as of_pairs, fields as of_fields, union, form_of, field_form, forms_of};
 ghost use Rattle.avro_container.specs.Reading.{string_at, items_at, blocks_at};
 ghost use Rattle.avro_datum.specs.Spelling.{most_items};
 ghost use Rattle.avro_datum.specs.Reading.{Makes, Adds, causes, entry_at, listed, read, read_all};
@@ -56,7 +56,106 @@ fn eight(bytes: &[u8]) -> [u8; 8]
     found
 }
 
+// The kinds that hold no values of their own. Each is a function apart, so that where they are called nothing is kept ready for them.
+
+#[inline(never)]
+#[tactic(auto, unfolding(crate::specs::Reading::read))]
+fn truth_value(bytes: &[u8], at: usize) -> Result<(Datum, usize), DatumErr>
+    requires { at ≤ length bytes.now }
+    ensures { Makes bytes.now result (read of_boolean (drop at bytes.now)) }
+{
+    let (found, end) = truth(bytes, at)?;
+    Ok((Datum::Bool(found), end))
+}
+
+#[inline(never)]
+#[tactic(auto, unfolding(crate::specs::Reading::read))]
+fn int_value(bytes: &[u8], at: usize) -> Result<(Datum, usize), DatumErr>
+    requires { at ≤ length bytes.now }
+    ensures { Makes bytes.now result (read of_int (drop at bytes.now)) }
+{
+    let (n, end) = int(bytes, at)?;
+    Ok((Datum::Int(n), end))
+}
+
+#[inline(never)]
+#[tactic(auto, unfolding(crate::specs::Reading::read))]
+fn long_value(bytes: &[u8], at: usize) -> Result<(Datum, usize), DatumErr>
+    requires { at ≤ length bytes.now }
+    ensures { Makes bytes.now result (read of_long (drop at bytes.now)) }
+{
+    let (n, end) = number(bytes, at)?;
+    Ok((Datum::Long(n), end))
+}
+
+#[inline(never)]
+#[tactic(auto, unfolding(crate::specs::Reading::read))]
+fn float_value(bytes: &[u8], at: usize) -> Result<(Datum, usize), DatumErr>
+    requires { at ≤ length bytes.now }
+    ensures { Makes bytes.now result (read of_float4 (drop at bytes.now)) }
+{
+    let (found, end) = part(bytes, at, 4)?;
+    Ok((Datum::Float4(four(found)), end))
+}
+
+#[inline(never)]
+#[tactic(auto, unfolding(crate::specs::Reading::read))]
+fn double_value(bytes: &[u8], at: usize) -> Result<(Datum, usize), DatumErr>
+    requires { at ≤ length bytes.now }
+    ensures { Makes bytes.now result (read of_float8 (drop at bytes.now)) }
+{
+    let (found, end) = part(bytes, at, 8)?;
+    Ok((Datum::Float8(eight(found)), end))
+}
+
+#[inline(never)]
+#[tactic(auto, unfolding(crate::specs::Reading::read))]
+fn bytes_value(alloc: Global, bytes: &[u8], at: usize) -> Result<(Datum, usize), DatumErr>
+    requires { at ≤ length bytes.now }
+    ensures { Makes bytes.now result (read of_bytes (drop at bytes.now)) }
+{
+    let (found, end) = blob(bytes, at)?;
+    Ok((Datum::Blob(copied(alloc, found)?), end))
+}
+
+#[inline(never)]
+#[tactic(auto, unfolding(crate::specs::Reading::read))]
+fn string_value(alloc: Global, bytes: &[u8], at: usize) -> Result<(Datum, usize), DatumErr>
+    requires { at ≤ length bytes.now }
+    ensures { Makes bytes.now result (read of_string (drop at bytes.now)) }
+{
+    let (text, end) = string(alloc, bytes, at)?;
+    Ok((Datum::Str(text), end))
+}
+
+#[inline(never)]
+#[tactic(auto, unfolding(crate::specs::Reading::read))]
+fn fixed_value(
+    alloc: Global,
+    size: usize,
+    bytes: &[u8],
+    at: usize,
+) -> Result<(Datum, usize), DatumErr>
+    requires { at ≤ length bytes.now }
+    ensures { Makes bytes.now result (read (of_fixed size) (drop at bytes.now)) }
+{
+    let (found, end) = part(bytes, at, size)?;
+    Ok((Datum::Fix(copied(alloc, found)?), end))
+}
+
+#[inline(never)]
+#[tactic(auto, unfolding(crate::specs::Reading::read))]
+fn enum_value(count: usize, bytes: &[u8], at: usize) -> Result<(Datum, usize), DatumErr>
+    requires { at ≤ length bytes.now }
+    ensures { Makes bytes.now result (read (of_choice count) (drop at bytes.now)) }
+{
+    let (n, end) = position(count, bytes, at, DatumCause::BadEnum)?;
+    Ok((Datum::Choice(n), end))
+}
+
+/// A value.
 #[cycle(decode)]
+#[inline(always)]
 #[tactic(auto, unfolding(crate::specs::Reading::read))]
 pub(crate) fn value(
     alloc: Global,
@@ -69,46 +168,19 @@ pub(crate) fn value(
 {
     match schema {
         Schema::Null => Ok((Datum::Null, at)),
-        Schema::Bool => {
-            let (found, end) = truth(bytes, at)?;
-            Ok((Datum::Bool(found), end))
-        }
-        Schema::Int(_) => {
-            let (n, end) = int(bytes, at)?;
-            Ok((Datum::Int(n), end))
-        }
-        Schema::Long(_) => {
-            let (n, end) = number(bytes, at)?;
-            Ok((Datum::Long(n), end))
-        }
-        Schema::Float4 => {
-            let (found, end) = part(bytes, at, 4)?;
-            Ok((Datum::Float4(four(found)), end))
-        }
-        Schema::Float8 => {
-            let (found, end) = part(bytes, at, 8)?;
-            Ok((Datum::Float8(eight(found)), end))
-        }
-        Schema::Blob(_) => {
-            let (found, end) = blob(bytes, at)?;
-            Ok((Datum::Blob(copied(alloc, found)?), end))
-        }
-        Schema::Str(_) => {
-            let (text, end) = string(alloc, bytes, at)?;
-            Ok((Datum::Str(text), end))
-        }
-        Schema::Fix { size, .. } => {
-            let (found, end) = part(bytes, at, *size as usize)?;
-            Ok((Datum::Fix(copied(alloc, found)?), end))
-        }
-        Schema::Choice { symbols, .. } => {
-            let (n, end) = position(symbols.as_slice().len(), bytes, at, DatumCause::BadEnum)?;
-            Ok((Datum::Choice(n), end))
-        }
+        Schema::Bool => truth_value(bytes, at),
+        Schema::Int(_) => int_value(bytes, at),
+        Schema::Long(_) => long_value(bytes, at),
+        Schema::Float4 => float_value(bytes, at),
+        Schema::Float8 => double_value(bytes, at),
+        Schema::Blob(_) => bytes_value(alloc, bytes, at),
+        Schema::Str(_) => string_value(alloc, bytes, at),
+        Schema::Fix { size, .. } => fixed_value(alloc, *size as usize, bytes, at),
+        Schema::Choice { symbols, .. } => enum_value(symbols.as_slice().len(), bytes, at),
         Schema::List { item, .. } => array(alloc, item.get(), bytes, at),
         Schema::Pairs { value: inner, .. } => pair_list(alloc, inner.get(), bytes, at),
         Schema::Fields { fields, .. } => record(alloc, fields.as_slice(), bytes, at),
-        Schema::Union { branches } => one(alloc, branches.as_slice(), bytes, at),
+        Schema::Union { branches } => branch_value(alloc, branches.as_slice(), bytes, at),
     }
 }
 
@@ -208,6 +280,20 @@ fn one(
     let (branch, end) = position(branches.len(), bytes, at, DatumCause::BadBranch)?;
     let (inner, end) = boxed(alloc, &branches[branch as usize], bytes, end)?;
     Ok((Datum::Branch(branch, inner), end))
+}
+
+#[cycle(decode)]
+#[inline(never)]
+fn branch_value(
+    alloc: Global,
+    branches: &[Schema],
+    bytes: &[u8],
+    at: usize,
+) -> Result<(Datum, usize), DatumErr>
+    requires { at ≤ length bytes.now }
+    ensures { Makes bytes.now result (read (union (forms_of (map form_of branches.now))) (drop at bytes.now)) }
+{
+    one(alloc, branches, bytes, at)
 }
 
 /// A value in a box, with the same kinds made in their place.
