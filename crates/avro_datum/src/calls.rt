@@ -1,6 +1,6 @@
 //! The public calls.
 
-ghost use Rattle.std.specs.Prelude.{◌≡◌, ◌++◌, ℕ, List, drop, IfOk, OnOk, OnErr, Ok};
+ghost use Rattle.std.specs.Prelude.{◌≡◌, ◌≤◌, ◌++◌, ℕ, List, length, drop, IfOk, OnOk, OnErr, Ok};
 ghost use Rattle.avro_schema.specs.Form.{form_of};
 ghost use Rattle.avro_datum.specs.Spelling.{Spells, IsSpelledAt, NoneAt, ValuesAreApart};
 ghost use Rattle.avro_datum.specs.Reading.{Makes, Ends, OnFault, read};
@@ -15,6 +15,16 @@ use crate::skipping::past;
 use avro_schema::Schema;
 use std::alloc::{AllocError, Global};
 
+// The place, or the end of the bytes where it lies past it.
+#[inline(always)]
+#[tactic(auto, using(std::proofs::lemmas::List::drop_all))]
+fn within(bytes: &[u8], at: usize) -> usize
+    ensures end { result ≤ length bytes.now }
+    ensures rest { drop result bytes.now ≡ drop at bytes.now }
+{
+    if at > bytes.len() { bytes.len() } else { at }
+}
+
 #[inline(always)]
 fn value_from(
     alloc: Global,
@@ -24,10 +34,7 @@ fn value_from(
 ) -> Result<(Datum, usize), DatumErr>
     ensures { Makes bytes.now result (read (form_of schema.now) (drop at bytes.now)) }
 {
-    if at > bytes.len() {
-        return value(alloc, schema, bytes, bytes.len());
-    }
-    value(alloc, schema, bytes, at)
+    value(alloc, schema, bytes, within(bytes, at))
 }
 
 /// The value that begins at `at`, and where it ends. An `at` past the end reads as at the end.
@@ -51,10 +58,7 @@ pub fn decode(
 fn past_from(schema: &Schema, bytes: &[u8], at: usize) -> Result<usize, SkipErr>
     ensures { Ends bytes.now result (read (form_of schema.now) (drop at bytes.now)) }
 {
-    if at > bytes.len() {
-        return past(schema, bytes, bytes.len());
-    }
-    past(schema, bytes, at)
+    past(schema, bytes, within(bytes, at))
 }
 
 /// Where the value ends that begins at `at`. It ends where `decode` ends, and refuses as `decode` does.

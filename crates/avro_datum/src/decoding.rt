@@ -155,7 +155,6 @@ fn enum_value(count: usize, bytes: &[u8], at: usize) -> Result<(Datum, usize), D
 
 /// A value.
 #[cycle(decode)]
-#[inline(always)]
 #[tactic(auto, unfolding(crate::specs::Reading::read))]
 pub(crate) fn value(
     alloc: Global,
