@@ -56,7 +56,8 @@ fn eight(bytes: &[u8]) -> [u8; 8]
     found
 }
 
-// The kinds that hold no values of their own. Each is a function apart, so that where they are called nothing is kept ready for them.
+// The kinds that hold no values of their own. Each is a function apart: a function pays at its start for what each of its
+// arms may need.
 
 #[inline(never)]
 #[tactic(auto, unfolding(crate::specs::Reading::read))]
@@ -281,6 +282,7 @@ fn one(
     Ok((Datum::Branch(branch, inner), end))
 }
 
+/// The same by a call, where it is no field of a record.
 #[cycle(decode)]
 #[inline(never)]
 fn branch_value(

@@ -29,7 +29,7 @@ fn past_string(bytes: &[u8], at: usize) -> Result<usize, SkipErr>
     Ok(end)
 }
 
-// The kinds that hold no values of their own, and those that do. Each is a function apart, so that where they are called nothing is kept ready for them.
+// The kinds that hold no values of their own. Each is a function apart, as in `decoding`.
 
 #[inline(never)]
 #[tactic(auto, unfolding(crate::specs::Reading::read))]
