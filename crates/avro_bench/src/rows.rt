@@ -9,7 +9,7 @@ use avro_container::{Block, Header, next_block, read_header, write_block};
 use avro_datum::{Datum, DatumErr, decode, encode, skip};
 use avro_schema::{Schema, read_schema};
 use serde_json::Value;
-use std::alloc::Global;
+use std::alloc::{AllocError, Global};
 use std::fmt::Debug;
 
 /// A block is closed after the row with which its bytes, or its rows, reach this number.
@@ -51,15 +51,23 @@ fn front<'b>(bytes: &'b [u8], block: &Block) -> Result<&'b [u8]> {
 // The error of a row that isn't read, apart so that its text takes no room where rows are read.
 #[cold]
 #[inline(never)]
-fn unread(e: DatumErr) -> anyhow::Error {
+fn unread(e: &DatumErr) -> anyhow::Error {
     anyhow!("{e:?}")
+}
+
+// The same for want of memory.
+#[cold]
+#[inline(never)]
+fn no_memory() -> anyhow::Error {
+    anyhow::Error::from(AllocError)
 }
 
 fn decoded_in(alloc: Global, schema: &Schema, body: &[u8], block: &Block) -> Result<()> {
     let mut at = block.from;
     for _ in 0..block.count {
-        match decode(alloc, schema, body, at) {
-            Ok((_row, end)) => at = end,
+        let found = decode(alloc, schema, body, at);
+        match &found {
+            Ok((_row, end)) => at = *end,
             Err(e) => return Err(unread(e)),
         }
     }
@@ -84,7 +92,10 @@ pub fn decoded(alloc: Global, file: &Container, bytes: &[u8]) -> Result<u64> {
 fn skipped_in(schema: &Schema, body: &[u8], block: &Block) -> Result<()> {
     let mut at = block.from;
     for _ in 0..block.count {
-        at = told(skip(schema, body, at))?;
+        match skip(schema, body, at) {
+            Ok(end) => at = end,
+            Err(e) => return Err(unread(&DatumErr::from(e))),
+        }
     }
     Ok(())
 }
@@ -132,22 +143,7 @@ fn close(blocks: &mut Blocks, sync: &[u8; 16]) -> Result<()>
     Ok(())
 }
 
-// Puts a row into the open block, which is closed with the row with which its bytes or its rows reach 64,000.
-fn put(blocks: &mut Blocks, file: &Container, row: &Datum) -> Result<()>
-    requires row { IsOf (form_of file.now.schema) row.now }
-    requires bytes { length blocks.old.body.items < 64000 }
-    requires rows { blocks.old.count < 64000 }
-    ensures bytes { OnOk result (length blocks.new.body.items < 64000) }
-    ensures rows { OnOk result (blocks.new.count < 64000) }
-{
-    encode(&file.schema, row, &mut blocks.body)?;
-    blocks.count += 1;
-    if blocks.body.len() >= BLOCK || blocks.count >= BLOCK as u64 {
-        close(blocks, &file.header.sync)?;
-    }
-    Ok(())
-}
-
+// Puts each row into the open block, which is closed with the row with which its bytes or its rows reach 64,000.
 fn recoded_in(
     alloc: Global,
     file: &Container,
@@ -162,12 +158,20 @@ fn recoded_in(
 {
     let mut at = block.from;
     for _ in 0..block.count {
-        match decode(alloc, &file.schema, body, at) {
+        // The row stays where it was made: it is slow to move.
+        let found = decode(alloc, &file.schema, body, at);
+        match &found {
             Ok((row, end)) => {
-                put(blocks, file, &row)?;
-                at = end;
+                if encode(&file.schema, row, &mut blocks.body).is_err() {
+                    return Err(no_memory());
+                }
+                at = *end;
             }
             Err(e) => return Err(unread(e)),
+        }
+        blocks.count += 1;
+        if blocks.body.len() >= BLOCK || blocks.count >= BLOCK as u64 {
+            close(blocks, &file.header.sync)?;
         }
     }
     Ok(())

@@ -85,3 +85,12 @@ goes_on v s c b xs rest bs few high is so =
     let left : 9 - c ≡ suc (9 - (c + 1)) = omega arith in
     ap (λ n. scaled (v + s * (b - 128)) (s * 128) (groups_at n bs)) (sym left)
     ∙ sym (more_groups v s (9 - c) b bs high) ∙ ap (λ r. scaled v s (groups_at (suc (9 - c)) r)) (sym is) ∙ so
+
+-- a number of one byte
+pub one_group : (b : ℕ) (xs bs : List ℕ) → xs ≡ b ∷ bs → b < 128 → unsigned_at xs ≡ Ok (b, bs)
+unfolding unsigned_at groups_at
+one_group b xs bs is low = rw (is, lt-ltb b 128 low, lt-ltb b (2 ^ 64) (omega arith)) refl
+
+pub no_byte : (xs : List ℕ) → xs ≡ [] → unsigned_at xs ≡ Err Short
+unfolding unsigned_at groups_at
+no_byte xs is = rw is refl

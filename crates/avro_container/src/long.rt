@@ -30,7 +30,9 @@ fn signed(n: u64) -> i64
     }
 }
 
-fn read_unsigned(bytes: &[u8], at: usize) -> Result<(u64, usize), NumErr>
+// Apart from the numbers of one byte, which are most and are read where they are wanted.
+#[inline(never)]
+fn read_groups(bytes: &[u8], at: usize) -> Result<(u64, usize), NumErr>
     ensures { GivesNumber bytes.now result (unsigned_at (drop at bytes.now)) }
 {
     let mut value = 0u64;
@@ -58,6 +60,21 @@ fn read_unsigned(bytes: &[u8], at: usize) -> Result<(u64, usize), NumErr>
     Ok((value + scale * u64::from(last), end + 1))
 }
 
+#[inline(always)]
+#[tactic(auto, using(crate::proofs::LongGroups::one_group, crate::proofs::LongGroups::no_byte))]
+fn read_unsigned(bytes: &[u8], at: usize) -> Result<(u64, usize), NumErr>
+    ensures { GivesNumber bytes.now result (unsigned_at (drop at bytes.now)) }
+{
+    let Some(byte) = byte_at(bytes, at) else {
+        return Err(NumErr::Short);
+    };
+    if byte < 128 {
+        return Ok((u64::from(byte), at + 1));
+    }
+    read_groups(bytes, at)
+}
+
+#[inline(always)]
 #[tactic(auto, unfolding(crate::specs::LongReading::long_at))]
 fn read_signed(bytes: &[u8], at: usize) -> Result<(i64, usize), NumErr>
     ensures { GivesNumber bytes.now result (long_at (drop at bytes.now)) }
@@ -88,6 +105,7 @@ fn unsigned(n: i64) -> u64
     }
 }
 
+#[inline(never)]
 fn write_groups(n: u64, to: &mut Vec<u8>) -> Result<(), AllocError>
     ensures ok { OnOk result (to.new.items ≡ to.old.items ++ groups_of 10 n) }
     ensures grows { Grows to.old.items to.new.items }
@@ -105,18 +123,34 @@ fn write_groups(n: u64, to: &mut Vec<u8>) -> Result<(), AllocError>
     Ok(())
 }
 
+// The numbers of one byte are written where they are wanted, as they are read.
+#[inline(always)]
+#[tactic(auto, using(crate::proofs::LongWritten::last_written))]
+fn write_unsigned(n: u64, to: &mut Vec<u8>) -> Result<(), AllocError>
+    ensures ok { OnOk result (to.new.items ≡ to.old.items ++ groups_of 10 n) }
+    ensures grows { Grows to.old.items to.new.items }
+{
+    if n < 128 {
+        to.push(n as u8)?;
+        return Ok(());
+    }
+    write_groups(n, to)
+}
+
 /// Writes the number's shortest spelling at the end.
 ///
 /// Where memory runs out, some bytes of it may stand at the end: a public caller cuts them off.
+#[inline(always)]
 #[tactic(auto, unfolding(crate::specs::Long::written_long))]
 pub(crate) fn put_long(n: i64, to: &mut Vec<u8>) -> Result<(), AllocError>
     ensures ok { OnOk result (to.new.items ≡ to.old.items ++ written_long n) }
     ensures grows { Grows to.old.items to.new.items }
 {
-    write_groups(unsigned(n), to)
+    write_unsigned(unsigned(n), to)
 }
 
 /// Writes the number's shortest spelling at the end.
+#[inline(always)]
 pub fn write_long(n: i64, to: &mut Vec<u8>) -> Result<(), AllocError>
     ensures written { OnOk result (to.new.items ≡ to.old.items ++ written_long n) }
     ensures err { OnErr result (to.new.items ≡ to.old.items) }

@@ -72,6 +72,10 @@ unfoldable mutual
   read_nth (form f fs) zero bytes = read f bytes
   read_nth (form f fs) (suc n) bytes = read_nth fs n bytes
 
+-- a list of the one value that was read
+abbrev pub listed : {A : Type 0} → Read DatumCause A → Read DatumCause (List A)
+listed read = read >>= λ d. Ok (d.0 ∷ [], d.1)
+
 -- What a refusal says, unless memory ran out. A place is told by what is left there.
 abbrev pub Fails : {A : Type 0} → List ℕ → DatumErr → Read DatumCause A → Type 0
 Fails bytes errors.Memory read = Unit {0}

@@ -1,6 +1,6 @@
 //! The public calls.
 
-ghost use Rattle.std.specs.Prelude.{◌≡◌, ◌++◌, ℕ, List, drop, IfOk, OnOk, OnErr, Ok};
+ghost use Rattle.std.specs.Prelude.{◌≡◌, ◌≤◌, ◌++◌, ℕ, List, length, drop, IfOk, OnOk, OnErr, Ok};
 ghost use Rattle.avro_schema.specs.Form.{form_of};
 ghost use Rattle.avro_datum.specs.Spelling.{Spells, IsSpelledAt, NoneAt, ValuesAreApart};
 ghost use Rattle.avro_datum.specs.Reading.{Makes, Ends, OnFault, read};
@@ -15,6 +15,17 @@ use crate::skipping::past;
 use avro_schema::Schema;
 use std::alloc::{AllocError, Global};
 
+// The place, or the end of the bytes where it lies past it.
+#[inline(always)]
+#[tactic(auto, using(std::proofs::lemmas::List::drop_all))]
+fn within(bytes: &[u8], at: usize) -> usize
+    ensures end { result ≤ length bytes.now }
+    ensures rest { drop result bytes.now ≡ drop at bytes.now }
+{
+    if at > bytes.len() { bytes.len() } else { at }
+}
+
+#[inline(always)]
 fn value_from(
     alloc: Global,
     schema: &Schema,
@@ -23,13 +34,11 @@ fn value_from(
 ) -> Result<(Datum, usize), DatumErr>
     ensures { Makes bytes.now result (read (form_of schema.now) (drop at bytes.now)) }
 {
-    if at > bytes.len() {
-        return value(alloc, schema, bytes, bytes.len());
-    }
-    value(alloc, schema, bytes, at)
+    value(alloc, schema, bytes, within(bytes, at))
 }
 
 /// The value that begins at `at`, and where it ends. An `at` past the end reads as at the end.
+#[inline(always)]
 pub fn decode(
     alloc: Global,
     schema: &Schema,
@@ -45,16 +54,15 @@ pub fn decode(
     value_from(alloc, schema, bytes, at)
 }
 
+#[inline(always)]
 fn past_from(schema: &Schema, bytes: &[u8], at: usize) -> Result<usize, SkipErr>
     ensures { Ends bytes.now result (read (form_of schema.now) (drop at bytes.now)) }
 {
-    if at > bytes.len() {
-        return past(schema, bytes, bytes.len());
-    }
-    past(schema, bytes, at)
+    past(schema, bytes, within(bytes, at))
 }
 
 /// Where the value ends that begins at `at`. It ends where `decode` ends, and refuses as `decode` does.
+#[inline(always)]
 pub fn skip(schema: &Schema, bytes: &[u8], at: usize) -> Result<usize, SkipErr>
     ensures found { IfOk result (λ end. (d : Datum) × IsSpelledAt (form_of schema.now) d bytes.now at end) }
     ensures none { OnErr result (NoneAt (form_of schema.now) bytes.now at) }
@@ -65,6 +73,7 @@ pub fn skip(schema: &Schema, bytes: &[u8], at: usize) -> Result<usize, SkipErr>
 }
 
 /// Writes the written spelling of the value at the end: shortest numbers, and arrays and maps in at most one block.
+#[inline(always)]
 pub fn encode(schema: &Schema, datum: &Datum, to: &mut Vec<u8>) -> Result<(), AllocError>
     requires { IsOf (form_of schema.now) datum.now }
     ensures written { OnOk result (to.new.items ≡ to.old.items ++ written (form_of schema.now) datum.now) }

@@ -1,10 +1,10 @@
 //! Values read.
 
-ghost use Rattle.std.specs.Prelude.{◌≡◌, IfOk, ◌<◌, ◌≤◌, ◌-◌, suc, length, drop, map};
-ghost use Rattle.avro_schema.specs.Form.{union, form_of, field_form, forms_of};
+ghost use Rattle.std.specs.Prelude.{◌≡◌, IfOk, OnOk, ◌<◌, ◌≤◌, ◌+◌, ◌-◌, suc, length, drop, map, vec_len, vec_capacity};
+ghost use Rattle.avro_schema.specs.Form.{boolean as of_boolean, int as of_int, long as of_long, float4 as of_float4, float8 as of_float8, bytes as of_bytes, string as of_string, fixed as of_fixed, choice as of_choice, array as of_array, pairs as of_pairs, fields as of_fields, union, form_of, field_form, forms_of};
 ghost use Rattle.avro_container.specs.Reading.{string_at, items_at, blocks_at};
 ghost use Rattle.avro_datum.specs.Spelling.{most_items};
-ghost use Rattle.avro_datum.specs.Reading.{Makes, Adds, causes, entry_at, read, read_all};
+ghost use Rattle.avro_datum.specs.Reading.{Makes, Adds, causes, entry_at, listed, read, read_all};
 
 use crate::datum::{Datum, DatumList, PairList};
 use crate::fault::{DatumCause, DatumErr};
@@ -16,6 +16,7 @@ use std::alloc::{AllocError, Global};
 /// Items of one array or map.
 const MOST_ITEMS: u64 = 16777216;
 
+#[inline(always)]
 #[tactic(auto, unfolding(avro_container::specs::Reading::string_at))]
 fn string(alloc: Global, bytes: &[u8], at: usize) -> Result<(Text, usize), DatumErr>
     requires { at ≤ length bytes.now }
@@ -55,6 +56,105 @@ fn eight(bytes: &[u8]) -> [u8; 8]
     found
 }
 
+// The kinds that hold no values of their own. Each is a function apart: a function pays at its start for what each of its
+// arms may need.
+
+#[inline(never)]
+#[tactic(auto, unfolding(crate::specs::Reading::read))]
+fn truth_value(bytes: &[u8], at: usize) -> Result<(Datum, usize), DatumErr>
+    requires { at ≤ length bytes.now }
+    ensures { Makes bytes.now result (read of_boolean (drop at bytes.now)) }
+{
+    let (found, end) = truth(bytes, at)?;
+    Ok((Datum::Bool(found), end))
+}
+
+#[inline(never)]
+#[tactic(auto, unfolding(crate::specs::Reading::read))]
+fn int_value(bytes: &[u8], at: usize) -> Result<(Datum, usize), DatumErr>
+    requires { at ≤ length bytes.now }
+    ensures { Makes bytes.now result (read of_int (drop at bytes.now)) }
+{
+    let (n, end) = int(bytes, at)?;
+    Ok((Datum::Int(n), end))
+}
+
+#[inline(never)]
+#[tactic(auto, unfolding(crate::specs::Reading::read))]
+fn long_value(bytes: &[u8], at: usize) -> Result<(Datum, usize), DatumErr>
+    requires { at ≤ length bytes.now }
+    ensures { Makes bytes.now result (read of_long (drop at bytes.now)) }
+{
+    let (n, end) = number(bytes, at)?;
+    Ok((Datum::Long(n), end))
+}
+
+#[inline(never)]
+#[tactic(auto, unfolding(crate::specs::Reading::read))]
+fn float_value(bytes: &[u8], at: usize) -> Result<(Datum, usize), DatumErr>
+    requires { at ≤ length bytes.now }
+    ensures { Makes bytes.now result (read of_float4 (drop at bytes.now)) }
+{
+    let (found, end) = part(bytes, at, 4)?;
+    Ok((Datum::Float4(four(found)), end))
+}
+
+#[inline(never)]
+#[tactic(auto, unfolding(crate::specs::Reading::read))]
+fn double_value(bytes: &[u8], at: usize) -> Result<(Datum, usize), DatumErr>
+    requires { at ≤ length bytes.now }
+    ensures { Makes bytes.now result (read of_float8 (drop at bytes.now)) }
+{
+    let (found, end) = part(bytes, at, 8)?;
+    Ok((Datum::Float8(eight(found)), end))
+}
+
+#[inline(never)]
+#[tactic(auto, unfolding(crate::specs::Reading::read))]
+fn bytes_value(alloc: Global, bytes: &[u8], at: usize) -> Result<(Datum, usize), DatumErr>
+    requires { at ≤ length bytes.now }
+    ensures { Makes bytes.now result (read of_bytes (drop at bytes.now)) }
+{
+    let (found, end) = blob(bytes, at)?;
+    Ok((Datum::Blob(copied(alloc, found)?), end))
+}
+
+#[inline(never)]
+#[tactic(auto, unfolding(crate::specs::Reading::read))]
+fn string_value(alloc: Global, bytes: &[u8], at: usize) -> Result<(Datum, usize), DatumErr>
+    requires { at ≤ length bytes.now }
+    ensures { Makes bytes.now result (read of_string (drop at bytes.now)) }
+{
+    let (text, end) = string(alloc, bytes, at)?;
+    Ok((Datum::Str(text), end))
+}
+
+#[inline(never)]
+#[tactic(auto, unfolding(crate::specs::Reading::read))]
+fn fixed_value(
+    alloc: Global,
+    size: usize,
+    bytes: &[u8],
+    at: usize,
+) -> Result<(Datum, usize), DatumErr>
+    requires { at ≤ length bytes.now }
+    ensures { Makes bytes.now result (read (of_fixed size) (drop at bytes.now)) }
+{
+    let (found, end) = part(bytes, at, size)?;
+    Ok((Datum::Fix(copied(alloc, found)?), end))
+}
+
+#[inline(never)]
+#[tactic(auto, unfolding(crate::specs::Reading::read))]
+fn enum_value(count: usize, bytes: &[u8], at: usize) -> Result<(Datum, usize), DatumErr>
+    requires { at ≤ length bytes.now }
+    ensures { Makes bytes.now result (read (of_choice count) (drop at bytes.now)) }
+{
+    let (n, end) = position(count, bytes, at, DatumCause::BadEnum)?;
+    Ok((Datum::Choice(n), end))
+}
+
+/// A value.
 #[cycle(decode)]
 #[tactic(auto, unfolding(crate::specs::Reading::read))]
 pub(crate) fn value(
@@ -68,61 +168,41 @@ pub(crate) fn value(
 {
     match schema {
         Schema::Null => Ok((Datum::Null, at)),
-        Schema::Bool => {
-            let (found, end) = truth(bytes, at)?;
-            Ok((Datum::Bool(found), end))
-        }
-        Schema::Int(_) => {
-            let (n, end) = int(bytes, at)?;
-            Ok((Datum::Int(n), end))
-        }
-        Schema::Long(_) => {
-            let (n, end) = number(bytes, at)?;
-            Ok((Datum::Long(n), end))
-        }
-        Schema::Float4 => {
-            let (found, end) = part(bytes, at, 4)?;
-            Ok((Datum::Float4(four(found)), end))
-        }
-        Schema::Float8 => {
-            let (found, end) = part(bytes, at, 8)?;
-            Ok((Datum::Float8(eight(found)), end))
-        }
-        Schema::Blob(_) => {
-            let (found, end) = blob(bytes, at)?;
-            Ok((Datum::Blob(copied(alloc, found)?), end))
-        }
-        Schema::Str(_) => {
-            let (text, end) = string(alloc, bytes, at)?;
-            Ok((Datum::Str(text), end))
-        }
-        Schema::Fix { size, .. } => {
-            let (found, end) = part(bytes, at, *size as usize)?;
-            Ok((Datum::Fix(copied(alloc, found)?), end))
-        }
-        Schema::Choice { symbols, .. } => {
-            let (n, end) = position(symbols.as_slice().len(), bytes, at, DatumCause::BadEnum)?;
-            Ok((Datum::Choice(n), end))
-        }
-        Schema::List { item, .. } => {
-            let (items, end) = blocks(alloc, item.get(), bytes, at)?;
-            Ok((Datum::List(items), end))
-        }
-        Schema::Pairs { value: inner, .. } => {
-            let (items, end) = pair_blocks(alloc, inner.get(), bytes, at)?;
-            Ok((Datum::Pairs(items), end))
-        }
-        Schema::Fields { fields, .. } => {
-            let (items, end) = all(alloc, fields.as_slice(), bytes, at)?;
-            Ok((Datum::Fields(items), end))
-        }
-        Schema::Union { branches } => one(alloc, branches.as_slice(), bytes, at),
+        Schema::Bool => truth_value(bytes, at),
+        Schema::Int(_) => int_value(bytes, at),
+        Schema::Long(_) => long_value(bytes, at),
+        Schema::Float4 => float_value(bytes, at),
+        Schema::Float8 => double_value(bytes, at),
+        Schema::Blob(_) => bytes_value(alloc, bytes, at),
+        Schema::Str(_) => string_value(alloc, bytes, at),
+        Schema::Fix { size, .. } => fixed_value(alloc, *size as usize, bytes, at),
+        Schema::Choice { symbols, .. } => enum_value(symbols.as_slice().len(), bytes, at),
+        Schema::List { item, .. } => array(alloc, item.get(), bytes, at),
+        Schema::Pairs { value: inner, .. } => pair_list(alloc, inner.get(), bytes, at),
+        Schema::Fields { fields, .. } => record(alloc, fields.as_slice(), bytes, at),
+        Schema::Union { branches } => branch_value(alloc, branches.as_slice(), bytes, at),
     }
+}
+
+/// A record.
+#[cycle(decode)]
+#[inline(never)]
+#[tactic(auto, unfolding(crate::specs::Reading::read))]
+fn record(
+    alloc: Global,
+    fields: &[Field],
+    bytes: &[u8],
+    at: usize,
+) -> Result<(Datum, usize), DatumErr>
+    requires { at ≤ length bytes.now }
+    ensures { Makes bytes.now result (read (of_fields (forms_of (map field_form fields.now))) (drop at bytes.now)) }
+{
+    let (items, end) = all(alloc, fields, bytes, at)?;
+    Ok((Datum::Fields(items), end))
 }
 
 /// A record's fields.
 #[cycle(decode)]
-#[inline(never)]
 #[tactic(auto, unfolding(crate::specs::Reading::read))]
 fn all(
     alloc: Global,
@@ -133,19 +213,60 @@ fn all(
     requires { at ≤ length bytes.now }
     ensures { Makes bytes.now result (read_all (forms_of (map field_form fields.now)) (drop at bytes.now)) }
 {
-    let mut items = Items::from_vec(Vec::with_capacity(alloc, fields.len())?);
+    let mut items = Vec::with_capacity(alloc, fields.len())?;
     let mut end = at;
     for field in fields {
-        let (item, after) = value(alloc, &field.schema, bytes, end)?;
-        items.push(item)?;
-        end = after;
+        end = add(alloc, &field.schema, bytes, end, &mut items)?;
     }
-    Ok((items, end))
+    Ok((Items::from_vec(items), end))
+}
+
+/// A value, put at the end of a list that has room for it.
+///
+/// The kinds that rows are mostly made of are made in the place where they stay: a value is slow to move.
+#[cycle(decode)]
+#[inline(always)]
+#[tactic(auto, unfolding(crate::specs::Reading::read))]
+fn add(
+    alloc: Global,
+    schema: &Schema,
+    bytes: &[u8],
+    at: usize,
+    to: &mut Vec<Datum>,
+) -> Result<usize, DatumErr>
+    requires within { at ≤ length bytes.now }
+    requires room { vec_len to.old < vec_capacity to.old }
+    ensures value { Adds bytes.now to.old.items to.new.items result (listed (read (form_of schema.now) (drop at bytes.now))) }
+    ensures count { OnOk result (vec_len to.new ≡ vec_len to.old + 1) }
+    ensures capacity { vec_capacity to.new ≡ vec_capacity to.old }
+{
+    match schema {
+        Schema::Long(_) => {
+            let (n, end) = number(bytes, at)?;
+            to.push_reserved(Datum::Long(n));
+            Ok(end)
+        }
+        Schema::Str(_) => {
+            let (text, end) = string(alloc, bytes, at)?;
+            to.push_reserved(Datum::Str(text));
+            Ok(end)
+        }
+        Schema::Union { branches } => {
+            let (item, end) = one(alloc, branches.as_slice(), bytes, at)?;
+            to.push_reserved(item);
+            Ok(end)
+        }
+        _ => {
+            let (item, end) = value(alloc, schema, bytes, at)?;
+            to.push_reserved(item);
+            Ok(end)
+        }
+    }
 }
 
 /// A branch of a union.
 #[cycle(decode)]
-#[inline(never)]
+#[inline(always)]
 #[tactic(auto, using(crate::proofs::Schemas::count_branches, crate::proofs::Schemas::nth_branch), unfolding(crate::specs::Reading::read))]
 fn one(
     alloc: Global,
@@ -157,13 +278,69 @@ fn one(
     ensures { Makes bytes.now result (read (union (forms_of (map form_of branches.now))) (drop at bytes.now)) }
 {
     let (branch, end) = position(branches.len(), bytes, at, DatumCause::BadBranch)?;
-    let (inner, end) = value(alloc, &branches[branch as usize], bytes, end)?;
-    Ok((Datum::Branch(branch, Boxed::new(alloc, inner)?), end))
+    let (inner, end) = boxed(alloc, &branches[branch as usize], bytes, end)?;
+    Ok((Datum::Branch(branch, inner), end))
+}
+
+/// The same by a call, where it is no field of a record.
+#[cycle(decode)]
+#[inline(never)]
+fn branch_value(
+    alloc: Global,
+    branches: &[Schema],
+    bytes: &[u8],
+    at: usize,
+) -> Result<(Datum, usize), DatumErr>
+    requires { at ≤ length bytes.now }
+    ensures { Makes bytes.now result (read (union (forms_of (map form_of branches.now))) (drop at bytes.now)) }
+{
+    one(alloc, branches, bytes, at)
+}
+
+/// A value in a box, with the same kinds made in their place.
+#[cycle(decode)]
+#[inline(never)]
+#[tactic(auto, unfolding(crate::specs::Reading::read))]
+fn boxed(
+    alloc: Global,
+    schema: &Schema,
+    bytes: &[u8],
+    at: usize,
+) -> Result<(Boxed<Datum>, usize), DatumErr>
+    requires { at ≤ length bytes.now }
+    ensures { Makes bytes.now result (read (form_of schema.now) (drop at bytes.now)) }
+{
+    match schema {
+        Schema::Null => Ok((Boxed::new(alloc, Datum::Null)?, at)),
+        Schema::Long(_) => {
+            let (n, end) = number(bytes, at)?;
+            Ok((Boxed::new(alloc, Datum::Long(n))?, end))
+        }
+        Schema::Str(_) => {
+            let (text, end) = string(alloc, bytes, at)?;
+            Ok((Boxed::new(alloc, Datum::Str(text))?, end))
+        }
+        _ => {
+            let (inner, end) = value(alloc, schema, bytes, at)?;
+            Ok((Boxed::new(alloc, inner)?, end))
+        }
+    }
 }
 
 /// An array.
 #[cycle(decode)]
 #[inline(never)]
+#[tactic(auto, unfolding(crate::specs::Reading::read))]
+fn array(alloc: Global, item: &Schema, bytes: &[u8], at: usize) -> Result<(Datum, usize), DatumErr>
+    requires { at ≤ length bytes.now }
+    ensures { Makes bytes.now result (read (of_array (form_of item.now)) (drop at bytes.now)) }
+{
+    let (items, end) = blocks(alloc, item, bytes, at)?;
+    Ok((Datum::List(items), end))
+}
+
+/// An array's blocks.
+#[cycle(decode)]
 fn blocks(
     alloc: Global,
     item: &Schema,
@@ -225,6 +402,22 @@ fn some(
 /// A map.
 #[cycle(decode)]
 #[inline(never)]
+#[tactic(auto, unfolding(crate::specs::Reading::read))]
+fn pair_list(
+    alloc: Global,
+    inner: &Schema,
+    bytes: &[u8],
+    at: usize,
+) -> Result<(Datum, usize), DatumErr>
+    requires { at ≤ length bytes.now }
+    ensures { Makes bytes.now result (read (of_pairs (form_of inner.now)) (drop at bytes.now)) }
+{
+    let (items, end) = pair_blocks(alloc, inner, bytes, at)?;
+    Ok((Datum::Pairs(items), end))
+}
+
+/// A map's blocks.
+#[cycle(decode)]
 fn pair_blocks(
     alloc: Global,
     inner: &Schema,

@@ -14,6 +14,7 @@ use avro_container::write_long;
 use avro_schema::{Field, Schema, Text};
 use std::alloc::AllocError;
 
+#[inline(always)]
 fn put_long(n: i64, to: &mut Vec<u8>) -> Result<(), AllocError>
     ensures ok { OnOk result (to.new.items ≡ to.old.items ++ written_long n) }
     ensures grows { Grows to.old.items to.new.items }
@@ -21,6 +22,7 @@ fn put_long(n: i64, to: &mut Vec<u8>) -> Result<(), AllocError>
     write_long(n, to)
 }
 
+#[inline(always)]
 fn put_count(n: u64, to: &mut Vec<u8>) -> Result<(), AllocError>
     requires { n < 9223372036854775808 }
     ensures ok { OnOk result (to.new.items ≡ to.old.items ++ written_long (pos n)) }
@@ -29,6 +31,7 @@ fn put_count(n: u64, to: &mut Vec<u8>) -> Result<(), AllocError>
     put_long(n as i64, to)
 }
 
+#[inline(never)]
 fn put_truth(found: bool, to: &mut Vec<u8>) -> Result<(), AllocError>
     ensures ok { OnOk result (to.new.items ≡ to.old.items ++ truth_byte found ∷ []) }
     ensures grows { Grows to.old.items to.new.items }
@@ -41,6 +44,7 @@ fn put_truth(found: bool, to: &mut Vec<u8>) -> Result<(), AllocError>
     Ok(())
 }
 
+#[inline(never)]
 fn put_text(text: &[u8], to: &mut Vec<u8>) -> Result<(), AllocError>
     ensures ok { OnOk result (to.new.items ≡ to.old.items ++ written_text text.now) }
     ensures grows { Grows to.old.items to.new.items }
@@ -54,6 +58,7 @@ fn put_text(text: &[u8], to: &mut Vec<u8>) -> Result<(), AllocError>
 }
 
 #[cycle(encode)]
+#[inline(always)]
 #[tactic(auto, unfolding(crate::specs::Writing::IsOf, crate::specs::Writing::written))]
 pub(crate) fn put(schema: &Schema, datum: &Datum, to: &mut Vec<u8>) -> Result<(), AllocError>
     requires { IsOf (form_of schema.now) datum.now }
@@ -119,6 +124,7 @@ pub(crate) fn put(schema: &Schema, datum: &Datum, to: &mut Vec<u8>) -> Result<()
 
 /// A record's fields.
 #[cycle(encode)]
+#[inline(never)]
 #[tactic(auto, unfolding(crate::specs::Writing::IsOf, crate::specs::Writing::written))]
 fn put_all(fields: &[Field], items: &[Datum], to: &mut Vec<u8>) -> Result<(), AllocError>
     requires { AreOf (forms_of (map field_form fields.now)) items.now }
@@ -138,6 +144,7 @@ fn put_all(fields: &[Field], items: &[Datum], to: &mut Vec<u8>) -> Result<(), Al
 
 /// A branch of a union.
 #[cycle(encode)]
+#[inline(never)]
 #[tactic(auto, using(crate::proofs::Puts::nth_within, crate::proofs::Puts::nth_is_at, crate::proofs::Puts::nth_written), unfolding(crate::specs::Writing::IsOf, crate::specs::Writing::written))]
 fn put_one(
     branches: &[Schema],
@@ -155,6 +162,7 @@ fn put_one(
 
 /// An array.
 #[cycle(encode)]
+#[inline(never)]
 #[tactic(auto, unfolding(crate::specs::Writing::IsOf, crate::specs::Writing::written))]
 fn put_blocks(item: &Schema, items: &[Datum], to: &mut Vec<u8>) -> Result<(), AllocError>
     requires each { AllByRecursion (IsOf (form_of item.now)) items.now }
@@ -184,6 +192,7 @@ fn put_each(item: &Schema, items: &[Datum], to: &mut Vec<u8>) -> Result<(), Allo
 
 /// A map.
 #[cycle(encode)]
+#[inline(never)]
 #[tactic(auto, unfolding(crate::specs::Writing::IsOf, crate::specs::Writing::written))]
 fn put_pair_blocks(
     inner: &Schema,

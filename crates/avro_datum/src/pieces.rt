@@ -92,8 +92,19 @@ pub(crate) fn blob(bytes: &[u8], at: usize) -> Result<(&[u8], usize), SkipErr>
     Ok((found, end))
 }
 
-/// The bytes as a text, where they are UTF-8.
+/// The bytes as a text, where they are UTF-8. Most texts are ASCII, which is sooner seen.
+#[inline(always)]
 pub(crate) fn text_of(bytes: &[u8]) -> Option<&str>
+    ensures { MatchOption result (is_utf8 bytes.now ≡ false) (λ t. (is_utf8 bytes.now ≡ true) × (t.now ≡ bytes.now)) }
+{
+    if bytes.is_ascii() {
+        return Some(unsafe { str::from_utf8_unchecked(bytes) });
+    }
+    wide_text(bytes)
+}
+
+#[inline(never)]
+fn wide_text(bytes: &[u8]) -> Option<&str>
     ensures { MatchOption result (is_utf8 bytes.now ≡ false) (λ t. (is_utf8 bytes.now ≡ true) × (t.now ≡ bytes.now)) }
 {
     match str::from_utf8(bytes) {

@@ -1,7 +1,7 @@
 //! Values passed over, without taking memory.
 
 ghost use Rattle.std.specs.Prelude.{◌≡◌, ◌≤◌, suc, length, drop, map};
-ghost use Rattle.avro_schema.specs.Form.{union, form_of, field_form, forms_of};
+ghost use Rattle.avro_schema.specs.Form.{boolean as of_boolean, int as of_int, long as of_long, bytes as of_bytes, string as of_string, fixed as of_fixed, choice as of_choice, array as of_array, pairs as of_pairs, fields as of_fields, union, form_of, field_form, forms_of};
 ghost use Rattle.avro_container.specs.Reading.{string_at, items_at, blocks_at};
 ghost use Rattle.avro_datum.specs.Spelling.{most_items};
 ghost use Rattle.avro_datum.specs.Reading.{Ends, causes, entry_at, read, read_all};
@@ -13,6 +13,7 @@ use avro_schema::{Field, Schema};
 /// Items of one array or map.
 const MOST_ITEMS: u64 = 16777216;
 
+#[inline(always)]
 #[tactic(auto, unfolding(avro_container::specs::Reading::string_at))]
 fn past_string(bytes: &[u8], at: usize) -> Result<usize, SkipErr>
     requires { at ≤ length bytes.now }
@@ -28,7 +29,81 @@ fn past_string(bytes: &[u8], at: usize) -> Result<usize, SkipErr>
     Ok(end)
 }
 
+// The kinds that hold no values of their own. Each is a function apart, as in `decoding`.
+
+#[inline(never)]
+#[tactic(auto, unfolding(crate::specs::Reading::read))]
+fn past_truth(bytes: &[u8], at: usize) -> Result<usize, SkipErr>
+    requires { at ≤ length bytes.now }
+    ensures { Ends bytes.now result (read of_boolean (drop at bytes.now)) }
+{
+    let (_found, end) = truth(bytes, at)?;
+    Ok(end)
+}
+
+#[inline(never)]
+#[tactic(auto, unfolding(crate::specs::Reading::read))]
+fn past_int(bytes: &[u8], at: usize) -> Result<usize, SkipErr>
+    requires { at ≤ length bytes.now }
+    ensures { Ends bytes.now result (read of_int (drop at bytes.now)) }
+{
+    let (_n, end) = int(bytes, at)?;
+    Ok(end)
+}
+
+#[inline(always)]
+#[tactic(auto, unfolding(crate::specs::Reading::read))]
+fn past_long(bytes: &[u8], at: usize) -> Result<usize, SkipErr>
+    requires { at ≤ length bytes.now }
+    ensures { Ends bytes.now result (read of_long (drop at bytes.now)) }
+{
+    let (_n, end) = number(bytes, at)?;
+    Ok(end)
+}
+
+#[inline(never)]
+#[tactic(auto, unfolding(crate::specs::Reading::read))]
+fn past_bytes(bytes: &[u8], at: usize) -> Result<usize, SkipErr>
+    requires { at ≤ length bytes.now }
+    ensures { Ends bytes.now result (read of_bytes (drop at bytes.now)) }
+{
+    let (_found, end) = blob(bytes, at)?;
+    Ok(end)
+}
+
+#[inline(never)]
+#[tactic(auto, unfolding(crate::specs::Reading::read))]
+fn past_text(bytes: &[u8], at: usize) -> Result<usize, SkipErr>
+    requires { at ≤ length bytes.now }
+    ensures { Ends bytes.now result (read of_string (drop at bytes.now)) }
+{
+    let end = past_string(bytes, at)?;
+    Ok(end)
+}
+
+#[inline(never)]
+#[tactic(auto, unfolding(crate::specs::Reading::read))]
+fn past_fixed(size: usize, bytes: &[u8], at: usize) -> Result<usize, SkipErr>
+    requires { at ≤ length bytes.now }
+    ensures { Ends bytes.now result (read (of_fixed size) (drop at bytes.now)) }
+{
+    let (_found, end) = part(bytes, at, size)?;
+    Ok(end)
+}
+
+#[inline(never)]
+#[tactic(auto, unfolding(crate::specs::Reading::read))]
+fn past_enum(count: usize, bytes: &[u8], at: usize) -> Result<usize, SkipErr>
+    requires { at ≤ length bytes.now }
+    ensures { Ends bytes.now result (read (of_choice count) (drop at bytes.now)) }
+{
+    let (_n, end) = position(count, bytes, at, DatumCause::BadEnum)?;
+    Ok(end)
+}
+
+/// A value.
 #[cycle(skip)]
+#[inline(always)]
 #[tactic(auto, unfolding(crate::specs::Reading::read))]
 pub(crate) fn past(schema: &Schema, bytes: &[u8], at: usize) -> Result<usize, SkipErr>
     requires { at ≤ length bytes.now }
@@ -36,18 +111,9 @@ pub(crate) fn past(schema: &Schema, bytes: &[u8], at: usize) -> Result<usize, Sk
 {
     match schema {
         Schema::Null => Ok(at),
-        Schema::Bool => {
-            let (_found, end) = truth(bytes, at)?;
-            Ok(end)
-        }
-        Schema::Int(_) => {
-            let (_n, end) = int(bytes, at)?;
-            Ok(end)
-        }
-        Schema::Long(_) => {
-            let (_n, end) = number(bytes, at)?;
-            Ok(end)
-        }
+        Schema::Bool => past_truth(bytes, at),
+        Schema::Int(_) => past_int(bytes, at),
+        Schema::Long(_) => past_long(bytes, at),
         Schema::Float4 => {
             let (_found, end) = part(bytes, at, 4)?;
             Ok(end)
@@ -56,36 +122,48 @@ pub(crate) fn past(schema: &Schema, bytes: &[u8], at: usize) -> Result<usize, Sk
             let (_found, end) = part(bytes, at, 8)?;
             Ok(end)
         }
-        Schema::Blob(_) => {
-            let (_found, end) = blob(bytes, at)?;
-            Ok(end)
-        }
-        Schema::Str(_) => {
-            let end = past_string(bytes, at)?;
-            Ok(end)
-        }
-        Schema::Fix { size, .. } => {
-            let (_found, end) = part(bytes, at, *size as usize)?;
-            Ok(end)
-        }
-        Schema::Choice { symbols, .. } => {
-            let (_n, end) = position(symbols.as_slice().len(), bytes, at, DatumCause::BadEnum)?;
-            Ok(end)
-        }
-        Schema::List { item, .. } => {
-            let end = past_blocks(item.get(), bytes, at)?;
-            Ok(end)
-        }
-        Schema::Pairs { value: inner, .. } => {
-            let end = past_pair_blocks(inner.get(), bytes, at)?;
-            Ok(end)
-        }
-        Schema::Fields { fields, .. } => {
-            let end = past_all(fields.as_slice(), bytes, at)?;
-            Ok(end)
-        }
+        Schema::Blob(_) => past_bytes(bytes, at),
+        Schema::Str(_) => past_text(bytes, at),
+        Schema::Fix { size, .. } => past_fixed(*size as usize, bytes, at),
+        Schema::Choice { symbols, .. } => past_enum(symbols.as_slice().len(), bytes, at),
+        Schema::List { item, .. } => past_array(item.get(), bytes, at),
+        Schema::Pairs { value: inner, .. } => past_map(inner.get(), bytes, at),
+        Schema::Fields { fields, .. } => past_record(fields.as_slice(), bytes, at),
         Schema::Union { branches } => past_one(branches.as_slice(), bytes, at),
     }
+}
+
+#[cycle(skip)]
+#[inline(never)]
+#[tactic(auto, unfolding(crate::specs::Reading::read))]
+fn past_record(fields: &[Field], bytes: &[u8], at: usize) -> Result<usize, SkipErr>
+    requires { at ≤ length bytes.now }
+    ensures { Ends bytes.now result (read (of_fields (forms_of (map field_form fields.now))) (drop at bytes.now)) }
+{
+    let end = past_all(fields, bytes, at)?;
+    Ok(end)
+}
+
+#[cycle(skip)]
+#[inline(never)]
+#[tactic(auto, unfolding(crate::specs::Reading::read))]
+fn past_array(item: &Schema, bytes: &[u8], at: usize) -> Result<usize, SkipErr>
+    requires { at ≤ length bytes.now }
+    ensures { Ends bytes.now result (read (of_array (form_of item.now)) (drop at bytes.now)) }
+{
+    let end = past_blocks(item, bytes, at)?;
+    Ok(end)
+}
+
+#[cycle(skip)]
+#[inline(never)]
+#[tactic(auto, unfolding(crate::specs::Reading::read))]
+fn past_map(inner: &Schema, bytes: &[u8], at: usize) -> Result<usize, SkipErr>
+    requires { at ≤ length bytes.now }
+    ensures { Ends bytes.now result (read (of_pairs (form_of inner.now)) (drop at bytes.now)) }
+{
+    let end = past_pair_blocks(inner, bytes, at)?;
+    Ok(end)
 }
 
 #[cycle(skip)]
@@ -102,6 +180,7 @@ fn past_all(fields: &[Field], bytes: &[u8], at: usize) -> Result<usize, SkipErr>
 }
 
 #[cycle(skip)]
+#[inline(never)]
 #[tactic(auto, using(crate::proofs::Schemas::count_branches, crate::proofs::Schemas::nth_branch), unfolding(crate::specs::Reading::read))]
 fn past_one(branches: &[Schema], bytes: &[u8], at: usize) -> Result<usize, SkipErr>
     requires { at ≤ length bytes.now }

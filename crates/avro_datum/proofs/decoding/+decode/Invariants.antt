@@ -1,4 +1,5 @@
 use Rattle.std.proofs.Common.{◌≡◌, ◌≤◌, ◌-◌, suc, length, drop}
+use Rattle.std.specs.Prelude.{vec_len, vec_capacity}
 use Rattle.avro_schema.specs.Form.{form_of}
 use Rattle.avro_container.specs.Reading.{with_front, items_at, blocks_at}
 use Rattle.avro_datum.specs.Spelling.{most_items}
@@ -9,7 +10,9 @@ use Rattle.avro_datum.proofs.decoding.+decode.Given as goal
 abbrev pub invariant-all-loop-field : goal.invariant-all-loop-field
 invariant-all-loop-field l = record {
   within : l.end ≤ length l.bytes;
-  so_far : with_front l.items (read_all (forms (drop l.field-index l.fields)) (drop l.end l.bytes)) ≡ read_all (forms l.fields) (drop l.at l.bytes);
+  count : vec_len l.items ≡ l.field-index;
+  capacity : vec_capacity l.items ≡ length l.fields;
+  so_far : with_front l.items.items (read_all (forms (drop l.field-index l.fields)) (drop l.end l.bytes)) ≡ read_all (forms l.fields) (drop l.at l.bytes);
 }
 
 abbrev pub invariant-blocks-loop : goal.invariant-blocks-loop

@@ -1,10 +1,8 @@
-use Rattle.std.proofs.Common.{sym}
-use Rattle.std.proofs.lemmas.Str.{is_utf8-from_IsUtf8}
-use Rattle.avro_container.proofs.Texts.{not_text}
+use Rattle.std.proofs.lemmas.Str.{IsUtf8-from_ascii, is_utf8-from_IsUtf8}
 use Rattle.avro_datum.proofs.pieces.text_of.Goals as goal
 
-pub returns-in-Ok : goal.returns-in-Ok
-returns-in-Ok c = (is_utf8-from_IsUtf8 _ (c.in-Ok.ensures.cases.1), c.in-Ok.ensures.cases.0)
+pub from_utf8_unchecked-requires : goal.from_utf8_unchecked-requires
+from_utf8_unchecked-requires c = IsUtf8-from_ascii _ (rw c.if-is_ascii.true at c.is_ascii.ensures.cases)
 
-pub returns-in-Err : goal.returns-in-Err
-returns-in-Err c = sym (not_text _ (c.in-Err.ensures.cases.0))
+pub returns-then-is_ascii : goal.returns-then-is_ascii
+returns-then-is_ascii c = (is_utf8-from_IsUtf8 _ (IsUtf8-from_ascii _ (rw c.if-is_ascii.true at c.is_ascii.ensures.cases)), c.from_utf8_unchecked.ensures)

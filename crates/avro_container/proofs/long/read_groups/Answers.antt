@@ -1,7 +1,7 @@
 use Rattle.std.proofs.Common.{◌-◌, ◌+◌, ◌*◌, ◌≤◌, ◌<◌, ◌^◌, ◌∷◌, drop, sym, ap, ◌∙◌, arith}
 use Rattle.avro_container.proofs.LongGroups.{goes_on, scale_at, scale_more, scale_end, at_end, low_fits, ends, is_short, too_long}
-use Rattle.avro_container.proofs.long.read_unsigned.Goals as goal
-use Rattle.avro_container.proofs.long.read_unsigned.Goals.{In-Some, Then-byte-lt128, Else-byte-lt128}
+use Rattle.avro_container.proofs.long.read_groups.Goals as goal
+use Rattle.avro_container.proofs.long.read_groups.Goals.{In-Some, Then-byte-lt128, Else-byte-lt128}
 
 small : (c : In-Some) → c.loop.scale ≤ 2 ^ 56
 small c = scale_at c.loop.scale c.loop.counter c.loop.invariant.power c.loop-test.true

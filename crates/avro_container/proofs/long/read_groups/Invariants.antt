@@ -1,7 +1,7 @@
 use Rattle.std.proofs.Common.{◌≡◌, suc, ◌-◌, ◌*◌, ◌<◌, ◌^◌, drop}
 use Rattle.avro_container.specs.LongReading.{groups_at}
 use Rattle.avro_container.proofs.LongGroups.{scaled}
-use Rattle.avro_container.proofs.long.read_unsigned.Given as goal
+use Rattle.avro_container.proofs.long.read_groups.Given as goal
 
 abbrev pub invariant-loop : goal.invariant-loop
 invariant-loop l = record {
