@@ -11,3 +11,4 @@ mod RunLaws
 mod WordSteps
 mod TaskSteps
 pub mod LeftLaws
+pub mod RefusalLaws

@@ -6,23 +6,25 @@ use Rattle.ice_store.specs.Others.{WhereTold}
 use Rattle.ice_store.specs.History.{replay}
 use Rattle.ice_store.specs.Places.{Parts}
 use Rattle.ice_store.specs.Since.{Since}
-use Rattle.ice_store.proofs.SinceLaws.{since_turned}
+use Rattle.ice_store.proofs.SinceLaws.{since_turned, since_then, since_start}
+use Rattle.table_publish.specs.Stages.{Anything}
 use Rattle.ice_store.specs.declared.history.Past.{Past}
 use Rattle.run_answers.specs.declared.status.Status.{Status}
-use Rattle.run_answers.specs.declared.status.Status.TheVariants.{Done, OutFault, OutOfMemory}
+use Rattle.run_answers.specs.declared.status.Status.TheVariants.{Done, BadStatement, OutFault, OutOfMemory}
 use Rattle.upkeep_top.specs.Points.{Point}
 use Rattle.upkeep_top.specs.Chains.{Leads}
 use Rattle.commit_protocol.specs.Promises.{AtEachStop, HasPrefix, HasFiles}
 use Rattle.commit_protocol.proofs.PromiseLaws.{prefixes, files}
 use Rattle.table_publish.proofs.LeftLaws.{rose_on}
-use Rattle.upkeep_top.specs.Runs.{IsDone, IsRefusal, RanAsked, RunsBy, Runs, Row, LastRow, ComesExactly, LastAsks, IsComplete, IsSafeRun, KeepsPrefix, KeepsFiles, EachSucceeds, TellsVersions, LeavesPlaces, MayLeave}
+use Rattle.upkeep_top.specs.Runs.{IsDone, IsRefusal, RanAsked, RunsBy, Runs, TellsBadArgument, Row, LastRow, ComesExactly, LastAsks, IsComplete, IsSafeRun, KeepsPrefix, KeepsFiles, EachSucceeds, TellsVersions, LeavesPlaces, MayLeave}
 use Rattle.upkeep_top.specs.Statements.{Ends, Did, Nobody, Any, IsSafeFor, Halts}
 use Rattle.upkeep_top.specs.Verdicts.{Verdict, IsFree, end_status}
 use Rattle.upkeep_top.specs.Words.{IsBadWord, RefusesWords}
 use Rattle.upkeep_top.specs.declared.task.Task.{Task}
 use Rattle.upkeep_top.proofs.VerdictLaws.{one_end, is_free, free_is, causes, Causes, IsStoreFault}
-use Rattle.upkeep_top.proofs.StopLaws.{safe_none, safe_run}
+use Rattle.upkeep_top.proofs.StopLaws.{told_any, safe_none, safe_run}
 use Rattle.upkeep_top.proofs.LeftLaws.{leaves_places}
+use Rattle.upkeep_top.proofs.RefusalLaws as refusals
 use Rattle.upkeep_top.proofs.VersionLaws.{done_rests, nothing_left, tells_versions}
 use Rattle.upkeep_top.proofs.SuccessorLaws.{each_succeeds}
 use Rattle.upkeep_top.proofs.WordLaws.{one_refusal, never_refused, one_table}
@@ -172,6 +174,12 @@ module _ (words : List (List ℕ)) (status : Status) (p q : Point) where
   refused_by (inl (inr m, same)) other refuses = inr m
   refused_by (inr r) other refuses = absurd (never_refused words r.table r.tasks other r.ask refuses)
 
+-- a history that is told stays told
+leads_any : (ts : List Task) (p q : Point) → Leads IsDone ts p q → Since p.past q.past (λ old new. Anything new)
+leads_any [] p q h = subst (λ (x : Point). Since p.past x.past (λ old new. Anything new)) (sym h) (since_start p.past Anything (λ old new. Anything new) (told_any p.past) (λ old any. tt))
+leads_any (t ∷ ts) p q h =
+    since_then p.past h.0.past q.past (Did t h.1.now (Gives p.identifiers h.0.identifiers) h.1.end Done p.output h.0.output) (λ old new. Anything new) (λ old new. Anything new) h.1.did (leads_any ts h.0 q h.2) (λ old mid new a b. tt)
+
 -- The clauses of a run.
 
 pub comes : (words : List (List ℕ)) (status : Status) (p q : Point) → Runs words status p q → (asked : Status) → is_free asked ≡ false → ComesExactly words status p.past q.past asked
@@ -194,6 +202,12 @@ rests words status p q r f = rests_by words status p q r.how f
 
 pub refused : (words : List (List ℕ)) (status : Status) (p q : Point) → Runs words status p q → (other : Status) → RefusesWords words other → (status ≡ other) ⊎ (status ≡ OutOfMemory)
 refused words status p q r other refuses = refused_by words status p q r.how other refuses
+
+pub bad_statement : (words : List (List ℕ)) (status : Status) (p q : Point) → Runs words status p q → (word at : ℕ) → status ≡ BadStatement word at → RefusesWords words status
+bad_statement words status p q r = refusals.bad_statement words status p q r.how
+
+pub bad_argument : (words : List (List ℕ)) (status : Status) (p q : Point) → Runs words status p q → Since p.past q.past (TellsBadArgument words status)
+bad_argument words status p q r = refusals.bad_argument words status p q r.how leads_any
 
 pub safe : (words : List (List ℕ)) (status : Status) (p q : Point) → Runs words status p q → Since p.past q.past (IsSafeRun words)
 safe words status p q r = safe_run words status p q r.how

@@ -13,7 +13,7 @@ use Rattle.commit_protocol.specs.Written.{draft_at, version_at}
 use Rattle.table_publish.specs.Left.{IsNaming, Leaves}
 use Rattle.ice_store.specs.declared.history.Step.{Step}
 use Rattle.run_answers.specs.declared.status.Status.{Status}
-use Rattle.run_answers.specs.declared.status.Status.TheVariants.{Done, StoreFault, CommitUnknown, OutOfMemory}
+use Rattle.run_answers.specs.declared.status.Status.TheVariants.{Done, BadArgument, StoreFault, CommitUnknown, OutOfMemory}
 use Rattle.upkeep_top.specs.Chains.{Leads}
 use Rattle.upkeep_top.specs.Points.{Point}
 use Rattle.upkeep_top.specs.Promises.{Publishes, SucceedsBy}
@@ -54,6 +54,10 @@ RunsBy words status p q = (IsRefusal words status × (q ≡ p)) ⊎ RanAsked wor
 
 pub record Runs (words : List (List ℕ)) (status : Status) (p q : Point) : Type 0 where
   pub how : RunsBy words status p q
+
+-- a refused argument is told only where the words are refused
+abbrev pub TellsBadArgument : List (List ℕ) → Status → Past → Past → Type 0
+TellsBadArgument words status old new = (word : ℕ) (name : List ℕ) → status ≡ BadArgument word name → RefusesWords words status
 
 -- of the last statement that ran: its status is this one exactly where the files that stood at its beginning ask for it; a fault or want of memory may come in its place
 pub record Row (status asked : Status) (task : Task) (now : ℕ) (Drawn : ℕ → Type 0) (past : Past) : Type 0 where

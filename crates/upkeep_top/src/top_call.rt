@@ -11,7 +11,7 @@ ghost use Rattle.run_answers.specs.Messages.{message_line};
 ghost use Rattle.run_answers.specs.Puts.{TakesPrefix, TakesAll};
 ghost use Rattle.run_answers.specs.declared.status.Status.{Status as TheStatus};
 ghost use Rattle.upkeep_top.specs.Points.{point};
-ghost use Rattle.upkeep_top.specs.Runs.{Ended, Runs, ComesExactly, IsComplete, IsSafeRun, KeepsPrefix, KeepsFiles, EachSucceeds, TellsVersions, LeavesPlaces, MayLeave};
+ghost use Rattle.upkeep_top.specs.Runs.{Ended, Runs, TellsBadArgument, ComesExactly, IsComplete, IsSafeRun, KeepsPrefix, KeepsFiles, EachSucceeds, TellsVersions, LeavesPlaces, MayLeave};
 ghost use Rattle.upkeep_top.specs.Statements.{Halts};
 ghost use Rattle.upkeep_top.specs.Words.{RefusesWords};
 ghost use Rattle.upkeep_top.specs.declared.task.Task.{Task as TheTask};
@@ -103,6 +103,8 @@ pub fn run<R: AllocGlobal, S: Store<Alone>, C: Clock, I: Ids, O: Sink, X: Sink>(
         (point (S.past store.new) (S.faults store.new) (S.halted store.new) (C.given clock.new) (I.given ids.new) (O.contents out.new) (O.faults out.new) result.committed result.left) }
     ensures refused { (status : TheStatus) → RefusesWords words.now status → (result.status ≡ status) ⊎ (result.status ≡ Status.OutOfMemory) }
     ensures no_call { (status : TheStatus) → RefusesWords words.now status → store.new ≡ store.old }
+    ensures bad_statement { (word at : ℕ) → result.status ≡ Status.BadStatement word at → RefusesWords words.now result.status }
+    ensures bad_argument { Since (S.past store.old) (S.past store.new) (TellsBadArgument words.now result.status) }
     ensures done { ComesExactly words.now result.status (S.past store.old) (S.past store.new) Status.Done }
     ensures no_table { (place : Parts) → ComesExactly words.now result.status (S.past store.old) (S.past store.new) (Status.NoTable place) }
     ensures location_differs { (table : Parts) (location : List ℕ) → ComesExactly words.now result.status (S.past store.old) (S.past store.new) (Status.LocationDiffers table location) }

@@ -6,6 +6,12 @@ use Rattle.upkeep_top.proofs.top_call.run.Goals as goal
 pub returns-clause-refused : goal.returns-clause-refused
 returns-clause-refused g c = λ status refuses. laws.refused _ _ _ _ c.run_words-outcome.ensures.told status refuses
 
+pub returns-clause-bad_statement : goal.returns-clause-bad_statement
+returns-clause-bad_statement g c = λ word at is. laws.bad_statement _ _ _ _ c.run_words-outcome.ensures.told word at is
+
+pub returns-clause-bad_argument : goal.returns-clause-bad_argument
+returns-clause-bad_argument g c = laws.bad_argument _ _ _ _ c.run_words-outcome.ensures.told
+
 pub returns-clause-done : goal.returns-clause-done
 returns-clause-done g c = laws.comes _ _ _ _ c.run_words-outcome.ensures.told Done refl
 
