@@ -5,4 +5,5 @@ pub mod QuietLaws
 pub mod VerdictLaws
 pub mod UniqueLaws
 pub mod NoteLaws
+pub mod FailureLaws
 pub mod PromiseLaws

@@ -4,3 +4,4 @@ pub mod Attempts
 pub mod Written
 pub mod Verdicts
 pub mod Promises
+pub mod Failures

@@ -1,5 +1,5 @@
 //! A commit: the table is opened, the change asked, and what it built published as the next version.
-ghost use Rattle.std.specs.Prelude.{◌≡◌, ◌≤◌, ◌<◌, ◌+◌, ◌^◌, ◌++◌, ◌∷◌, [], IfOk, IfErr, IsUtf8};
+ghost use Rattle.std.specs.Prelude.{◌≡◌, ◌≤◌, ◌<◌, ◌+◌, ◌^◌, ◌++◌, ◌∷◌, [], ℕ, Err, IfOk, IfErr, IsUtf8};
 ghost use Rattle.ice_store.specs.Others.{WhereTold};
 ghost use Rattle.ice_store.specs.Since.{Since};
 ghost use Rattle.ice_store.specs.Given.{Gives};
@@ -10,11 +10,14 @@ ghost use Rattle.table_metadata.specs.Edits.{HasVersionLimit};
 ghost use Rattle.table_publish.specs.Stages.{Narrow, NoReach, Creating, At as Stands};
 ghost use Rattle.table_publish.specs.Leaves.{Halts};
 ghost use Rattle.version_open.specs.Latest.{IsBaseNumber};
-ghost use Rattle.version_open.specs.Opening.{OpenStage};
+ghost use Rattle.version_open.specs.Opening.{OpenStage, OpenFaultAt};
+ghost use Rattle.version_open.specs.declared.types.OpenErr.{OpenErr as TheOpenErr};
+ghost use Rattle.ice_store.specs.Places.{Parts};
 ghost use Rattle.commit_protocol.specs.Metadata.{IsTableOf, IsMetadata};
 ghost use Rattle.commit_protocol.specs.Attempts.{StaysTable, TellsLimit, AttemptLeaves, CommitLeaves};
 ghost use Rattle.commit_protocol.specs.Promises.{StopsHavePrefix, StopsHaveFiles, Succeeds};
 ghost use Rattle.commit_protocol.specs.Causes.{CommitRose, AttemptErrRose};
+ghost use Rattle.commit_protocol.specs.Failures.{IsFaultOf, TellsFault, IsUnknownEnd};
 ghost use Rattle.commit_protocol.specs.Verdicts.{IsNobody, IsIdle, IsDecided, IsOneDrawn, CommitVerdict, IsExactCommit};
 ghost use Rattle.ice_store.specs.History.{replay};
 ghost use Rattle.table_history.specs.Versions.{folder};
@@ -149,6 +152,9 @@ fn publish_built<M: Manners, S: Store<M>, I: Ids>(
     ensures committed { log.new.committed.items ≡ commits result log.old.committed.items }
     ensures left { CommitLeft (Gives (I.given ids.old) (I.given ids.new)) table.now result log.old.left.items log.new.left.items }
     ensures noted { Since (S.past store.old) (S.past store.new) (Notes (Rose (S.faults store.old) (S.faults store.new)) (IsNamingOf (Gives (I.given ids.old) (I.given ids.new)) table.now) (commit_count result) [] log.old.left.items log.new.left.items) }
+    ensures unopened { (e : TheOpenErr) → result ≡ Err (CommitErr.Open e) → ⊥ }
+    ensures fault { (place : Parts) → result ≡ Err (CommitErr.Attempt (AttemptErr.Read (ReadErr.StoreFault place))) → IsFaultOf (Gives (I.given ids.old) (I.given ids.new)) table.now place log.old.left.items log.new.left.items }
+    ensures renamed { (version : ℕ) → result ≡ Err (CommitErr.CommitUnknown version) → Since (S.past store.old) (S.past store.new) (IsUnknownEnd (Gives (I.given ids.old) (I.given ids.new)) table.now version log.old.left.items log.new.left.items) }
 {
     let id = ids.next();
     let version = at.version + 1;
@@ -204,6 +210,9 @@ fn attempt_on<M: Manners, S: Store<M>, I: Ids, X: Change<M>>(
     ensures committed { log.new.committed.items ≡ commits result log.old.committed.items }
     ensures left { CommitLeft (Gives (I.given ids.old) (I.given ids.new)) table.now result log.old.left.items log.new.left.items }
     ensures noted { Since (S.past store.old) (S.past store.new) (Notes (Rose (S.faults store.old) (S.faults store.new)) (IsNamingOf (Gives (I.given ids.old) (I.given ids.new)) table.now) (commit_count result) [] log.old.left.items log.new.left.items) }
+    ensures unopened { (e : TheOpenErr) → result ≡ Err (CommitErr.Open e) → ⊥ }
+    ensures fault { (place : Parts) → result ≡ Err (CommitErr.Attempt (AttemptErr.Read (ReadErr.StoreFault place))) → TellsFault (X.refuses change.old) (Gives (I.given ids.old) (I.given ids.new)) table.now place log.old.left.items log.new.left.items }
+    ensures renamed { (version : ℕ) → result ≡ Err (CommitErr.CommitUnknown version) → Since (S.past store.old) (S.past store.new) (IsUnknownEnd (Gives (I.given ids.old) (I.given ids.new)) table.now version log.old.left.items log.new.left.items) }
 {
     if !at.meta.has_version_limit() {
         return Err(unreadable_limit(alloc, at.place));
@@ -226,7 +235,8 @@ fn attempt_on<M: Manners, S: Store<M>, I: Ids, X: Change<M>>(
 /// stands in the files at the entry and in the change's meanings (`alone`), and no other answer has its there (`exactly`).
 /// Whatever a stop leaves, from a whole table on, is whole and has the table after a prefix of the commits (`prefix`,
 /// `files`), and a published version is a successor of the one before it (`successors`). `noted` says exactly which
-/// places the log's `left` has.
+/// places the log's `left` has: the new metadata file where a call on it failed (`fault`), and both names of a rename
+/// that failed (`renamed`).
 pub fn commit<M: Manners, S: Store<M>, I: Ids, X: Change<M>>(
     alloc: Global,
     store: &mut S,
@@ -247,6 +257,9 @@ pub fn commit<M: Manners, S: Store<M>, I: Ids, X: Change<M>>(
     ensures committed { log.new.committed.items ≡ commits result log.old.committed.items }
     ensures left { CommitLeft (Gives (I.given ids.old) (I.given ids.new)) table.now result log.old.left.items log.new.left.items }
     ensures noted { Since (S.past store.old) (S.past store.new) (Notes (Rose (S.faults store.old) (S.faults store.new)) (IsNamingOf (Gives (I.given ids.old) (I.given ids.new)) table.now) (commit_count result) [] log.old.left.items log.new.left.items) }
+    ensures opening { (e : TheOpenErr) → result ≡ Err (CommitErr.Open e) → OpenFaultAt table.now e }
+    ensures fault { (place : Parts) → result ≡ Err (CommitErr.Attempt (AttemptErr.Read (ReadErr.StoreFault place))) → TellsFault (X.refuses change.old) (Gives (I.given ids.old) (I.given ids.new)) table.now place log.old.left.items log.new.left.items }
+    ensures renamed { (version : ℕ) → result ≡ Err (CommitErr.CommitUnknown version) → Since (S.past store.old) (S.past store.new) (IsUnknownEnd (Gives (I.given ids.old) (I.given ids.new)) table.now version log.old.left.items log.new.left.items) }
     ensures alone { IsNobody (M.allows (S.manners store.old)) → Since (S.past store.old) (S.past store.new) (λ old new. CommitVerdict (X.successor change.old) (X.same change.old) (X.refuses change.old) (Gives (I.given ids.old) (I.given ids.new)) table.now now (replay old).files result) }
     ensures exactly { IsNobody (M.allows (S.manners store.old)) → IsDecided (X.successor change.old) (X.same change.old) (X.refuses change.old) → IsOneDrawn (Gives (I.given ids.old) (I.given ids.new))
         → Since (S.past store.old) (S.past store.new) (λ old new. IsExactCommit (X.successor change.old) (X.same change.old) (X.refuses change.old) (Gives (I.given ids.old) (I.given ids.new)) table.now now result (replay old).files) }

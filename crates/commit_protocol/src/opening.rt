@@ -1,5 +1,5 @@
 //! Opening a table: its last version's metadata.
-ghost use Rattle.std.specs.Prelude.{◌≡◌, ◌≤◌, IfOk};
+ghost use Rattle.std.specs.Prelude.{◌≡◌, ◌≤◌, IfOk, IfErr};
 ghost use Rattle.ice_store.specs.Others.{WhereTold};
 ghost use Rattle.ice_store.specs.Since.{Since};
 ghost use Rattle.serde_json.specs.View.{view};
@@ -9,6 +9,7 @@ ghost use Rattle.table_metadata.specs.Spelling.{Spells, HasFault};
 ghost use Rattle.table_publish.specs.Stages.{Narrow, NoReach, Creating, At as Stands};
 ghost use Rattle.table_publish.specs.Leaves.{Halts};
 ghost use Rattle.version_open.specs.Latest.{IsBaseNumber};
+ghost use Rattle.version_open.specs.Opening.{OpenFaultAt};
 ghost use Rattle.commit_protocol.specs.Metadata.{IsTableOf, IsMetadata, ReadsTable, SaysElsewhere, TableLeaves, unsupported};
 ghost use Rattle.commit_protocol.specs.Causes.{TableRose};
 ghost use Rattle.commit_protocol.specs.Verdicts.{IsNobody, OpenVerdict, IsExactOpening};
@@ -127,6 +128,7 @@ pub fn open_table<M: Manners, S: Store<M>>(
     ensures metadata { IfOk result (λ at. IsMetadata table.now at.text (view at.meta)) }
     ensures manners { S.manners store.new ≡ S.manners store.old }
     ensures cause { TableRose result (S.faults store.old) (S.faults store.new) }
+    ensures place { IfErr result (λ e. OpenFaultAt table.now e) }
     ensures later { S.faults store.old ≤ S.faults store.new }
     ensures halted { Halts result (S.halted store.old) (S.halted store.new) (S.past store.new) }
     ensures alone { IsNobody (M.allows (S.manners store.old)) → Since (S.past store.old) (S.past store.new) (λ old new. OpenVerdict table.now (replay old).files result) }

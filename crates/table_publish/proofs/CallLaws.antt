@@ -16,7 +16,7 @@ use Rattle.ice_store.specs.declared.store.StoreErr.{StoreErr}
 use Rattle.ice_store.specs.declared.store.StoreErr.TheVariants.{Failed, Memory}
 use Rattle.ice_store.specs.declared.store.Made.{Made}
 use Rattle.ice_store.specs.declared.store.Made.TheVariants.{New, Exists}
-use Rattle.table_publish.specs.Leaves.{MakeLeaves, Unmade, Undropped}
+use Rattle.table_publish.specs.Leaves.{MakeLeaves, Unmade, Unmoved, Undropped}
 use Rattle.table_publish.specs.declared.steps.Call.TheVariants.{OnFile, OnNames}
 use Rattle.ice_store.specs.declared.store.Moved.TheVariants.{Done, Exists as There}
 use Rattle.ice_store.specs.declared.store.Gone.{Gone}
@@ -286,11 +286,11 @@ module _ (x : Work) where
           ran_turned x.number x.Good x.Reached x.allows (Exactly []) (Exactly []) (KD AtRest true x.bytes) KT old new after (λ l e. e)
           (λ k. record { pending = k.pending; last_or_taken = k.last_or_taken; file = record { stands = k.file; taken = there } })
 
-      pub rename_err : (e : StoreErr) → Answered x.allows now (Some new) (RenameAnswer x.draft x.target (Err e)) → RR (Begun (Rename x.draft x.target ∷ SyncNames ∷ [])) Anything old new
-      rename_err Memory told = loose (Rename x.draft x.target ∷ SyncNames ∷ []) (Rename x.draft x.target ∷ SyncNames ∷ []) [] (KD AtRest true x.bytes) old new refl (still [] (KD AtRest true x.bytes) (kr true x.bytes) run (RenameAnswer x.draft x.target (Err Memory)) told told.answer)
+      pub rename_err : (e : StoreErr) → Answered x.allows now (Some new) (RenameAnswer x.draft x.target (Err e)) → RR (Unmoved x.draft x.target OnFile e) Anything old new
+      rename_err Memory told = unstaged (Exactly []) (KD AtRest true x.bytes) old new (still [] (KD AtRest true x.bytes) (kr true x.bytes) run (RenameAnswer x.draft x.target (Err Memory)) told told.answer)
       rename_err Failed told = elim told.answer [
-        | inl nothing ↦ loose (Rename x.draft x.target ∷ SyncNames ∷ []) (Rename x.draft x.target ∷ SyncNames ∷ []) [] (KD AtRest true x.bytes) old new refl (still [] (KD AtRest true x.bytes) (kr true x.bytes) run (RenameAnswer x.draft x.target (Err Failed)) told nothing)
-        | inr one ↦ loose (Rename x.draft x.target ∷ SyncNames ∷ []) (SyncNames ∷ []) (Rename x.draft x.target ∷ []) (IsRenamed x.number x.text x.bytes (Bs old)) old new refl (moves (RenameAnswer x.draft x.target (Err Failed)) told one.0 one.1)
+        | inl nothing ↦ loose (Rename x.draft x.target ∷ []) (Rename x.draft x.target ∷ []) [] (KD AtRest true x.bytes) old new refl (still [] (KD AtRest true x.bytes) (kr true x.bytes) run (RenameAnswer x.draft x.target (Err Failed)) told nothing)
+        | inr one ↦ loose (Rename x.draft x.target ∷ []) [] (Rename x.draft x.target ∷ []) (IsRenamed x.number x.text x.bytes (Bs old)) old new refl (moves (RenameAnswer x.draft x.target (Err Failed)) told one.0 one.1)
       ]
 
     module _ (run : RR (Exactly (Rename x.draft x.target ∷ [])) (IsRenamed x.number x.text x.bytes (Bs old)) old now) where
@@ -298,9 +298,20 @@ module _ (x : Work) where
       publish_ok = plain_ok (Rename x.draft x.target ∷ []) [] SyncNames (IsRenamed x.number x.text x.bytes (Bs old)) (IsPublished x.number x.text x.bytes (Bs old)) (k_renamed (Bs old)) run (λ past at. tt) (sync_keeps (IsRenamed x.number x.text x.bytes (Bs old)))
           (λ past t at. stages.publish_leads x.number x.Good x.Reached x.ruled x.localized x.allows x.mannered x.draft x.base x.target x.text x.bytes x.aim past t (Bs old) at)
 
-      pub publish_err : (e : StoreErr) → Answered x.allows now (Some new) (PlainAnswer SyncNames (Err e)) → RR (Begun (Rename x.draft x.target ∷ SyncNames ∷ [])) Anything old new
-      publish_err e = plain_err (Rename x.draft x.target ∷ []) [] SyncNames (IsRenamed x.number x.text x.bytes (Bs old)) (IsPublished x.number x.text x.bytes (Bs old)) (k_renamed (Bs old)) run (λ past at. tt) (sync_keeps (IsRenamed x.number x.text x.bytes (Bs old)))
-          (λ past t at. stages.publish_leads x.number x.Good x.Reached x.ruled x.localized x.allows x.mannered x.draft x.base x.target x.text x.bytes x.aim past t (Bs old) at) e
+      renamed_leads : (past : Past) (t : ℕ) → IsRenamed x.number x.text x.bytes (Bs old) past → IsPublished x.number x.text x.bytes (Bs old) (later past (us SyncNames t ∷ []))
+      renamed_leads past t at = stages.publish_leads x.number x.Good x.Reached x.ruled x.localized x.allows x.mannered x.draft x.base x.target x.text x.bytes x.aim past t (Bs old) at
+
+      unsynced_rename : (e : StoreErr) (told : Answered x.allows now (Some new) (PlainAnswer SyncNames (Err e))) → told.ours ≡ [] → RR (Then (Rename x.draft x.target ∷ []) (Begun (SyncNames ∷ []))) Anything old new
+      unsynced_rename e told nothing = behind (Rename x.draft x.target ∷ []) (SyncNames ∷ []) [] (SyncNames ∷ []) (IsRenamed x.number x.text x.bytes (Bs old)) old new refl
+          (still (Rename x.draft x.target ∷ []) (IsRenamed x.number x.text x.bytes (Bs old)) (k_renamed (Bs old)) run (PlainAnswer SyncNames (Err e)) told nothing)
+
+      pub publish_err : (e : StoreErr) → Answered x.allows now (Some new) (PlainAnswer SyncNames (Err e)) → RR (Unmoved x.draft x.target OnNames e) Anything old new
+      publish_err Memory told = unsynced_rename Memory told told.answer
+      publish_err Failed told = elim told.answer [
+        | inl nothing ↦ unsynced_rename Failed told nothing
+        | inr one ↦ behind (Rename x.draft x.target ∷ []) (SyncNames ∷ []) (SyncNames ∷ []) [] (IsPublished x.number x.text x.bytes (Bs old)) old new refl
+            (steps_on (Rename x.draft x.target ∷ []) [] SyncNames (IsRenamed x.number x.text x.bytes (Bs old)) (IsPublished x.number x.text x.bytes (Bs old)) (k_renamed (Bs old)) run (λ past at. tt) (sync_keeps (IsRenamed x.number x.text x.bytes (Bs old))) renamed_leads (PlainAnswer SyncNames (Err Failed)) told one)
+      ]
 
     -- a lost draft is removed
     module _ (never : (files : List Held) (p : Parts) → InReach x.number x.Reached files p → ⊥) (run : RR (Exactly []) KT old now) where

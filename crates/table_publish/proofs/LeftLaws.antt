@@ -1,7 +1,8 @@
 -- Which places the pieces of a publish leave.
-use Rattle.std.proofs.Common.{◌≡◌, inl, inr, ℕ, Bool, not, List, [], ◌∷◌, ◌++◌, take, refl, sym, ap, ◌∙◌, subst, append-nil, if◌then◌else◌, ◌≤◌, arith}
+use Rattle.std.proofs.Common.{◌≡◌, inl, inr, ℕ, Bool, not, List, [], ◌∷◌, ◌++◌, take, refl, sym, ap, ◌∙◌, subst, append-nil, append_assoc, if◌then◌else◌, ◌≤◌, arith}
 use Rattle.ice_store.specs.Places.{Parts}
 use Rattle.ice_store.proofs.FileLaws.{same_itself}
+use Rattle.ice_store.specs.declared.history.Event.{Event}
 use Rattle.ice_store.specs.declared.history.Past.{Past}
 use Rattle.ice_store.specs.History.{later}
 use Rattle.ice_store.proofs.HistoryLaws.{later-later}
@@ -11,11 +12,12 @@ use Rattle.ice_store.specs.declared.history.Step.{Step}
 use Rattle.ice_store.specs.declared.history.Step.TheVariants.{Create, Append, Rename, Remove, SyncNames}
 use Rattle.ice_store.specs.declared.store.StoreErr.{StoreErr}
 use Rattle.ice_store.specs.declared.store.StoreErr.TheVariants.{Failed, Memory}
-use Rattle.table_publish.specs.Stages.{Exactly, Begun, BegunFill, Then, draft_plan, fill_plan}
-use Rattle.table_publish.specs.Leaves.{Unmade, Undropped, RoseBy}
+use Rattle.table_publish.specs.Stages.{Exactly, Begun, BegunFill, Anything, Then, draft_plan, fill_plan}
+use Rattle.table_publish.specs.Leaves.{Unmade, Unmoved, Undropped, RoseBy}
 use Rattle.ice_store.specs.Calls.{Rose}
-use Rattle.table_publish.specs.Left.{without_place, places_after, count_after, made_by, IsLeft, IsMore, IsNaming, Leaves, Notes, draft_if}
-use Rattle.table_publish.specs.Logs.{is_failed, left_by_move, left_by_drop}
+use Rattle.table_publish.specs.Left.{without_place, places_after, count_after, made_by, IsLeft, IsMore, IsNaming, Leaves, Notes, Takes, TellsRename, draft_if}
+use Rattle.table_publish.specs.Logs.{is_failed, left_by_move, left_by_drop, unknown_from}
+use Rattle.table_publish.specs.declared.publish.PublishErr.TheVariants.{Unknown}
 use Rattle.table_publish.specs.declared.steps.Call.{Call}
 use Rattle.table_publish.specs.declared.steps.Call.TheVariants.{OnFile, OnNames}
 use Rattle.table_publish.proofs.CallLaws.{Work, RR}
@@ -51,6 +53,11 @@ filled_keeps draft bytes places steps fill = elim fill.begun [
   | inl one ↦ begun_keeps (Append draft (take fill.count bytes) ∷ []) steps places ((λ l. refl), refl, tt) one
   | inr all ↦ begun_keeps (fill_plan draft bytes) steps places ((λ l. refl), refl, ((λ l. refl), refl, ((λ l. refl), refl, tt))) all
 ]
+
+pub begun_rename : (draft target : Parts) (call : Call) (cause : StoreErr) (l : List Step) → Unmoved draft target call cause l → Begun (Rename draft target ∷ SyncNames ∷ []) l
+begun_rename draft target OnFile Failed l b = record { rest = b.rest ++ SyncNames ∷ []; is = ap (λ (z : List Step). z ++ SyncNames ∷ []) b.is ∙ append_assoc l b.rest (SyncNames ∷ []) }
+begun_rename draft target OnFile Memory l e = record { rest = Rename draft target ∷ SyncNames ∷ []; is = ap (λ (z : List Step). z ++ Rename draft target ∷ SyncNames ∷ []) (sym e) }
+begun_rename draft target OnNames cause l t = record { rest = t.then.rest; is = ap (λ (z : List Step). Rename draft target ∷ z) t.then.is ∙ ap (λ (z : List Step). z ++ t.then.rest) (sym t.is) }
 
 -- what the rename and the sync behind it leave where one of them did not do its work, and the removal and its sync
 abbrev pub moved_places : Call → StoreErr → Parts → Parts → List Parts
@@ -105,9 +112,9 @@ module _ (draft target : Parts) (bytes : List ℕ) (before now : ℕ) where
   pub published_left : (steps : List Step) → Exactly (Rename draft target ∷ SyncNames ∷ []) steps → Left 1 (draft ∷ []) steps []
   published_left steps e = exact 1 (draft ∷ []) steps [] (sym (ap (made_by 1 (draft ∷ [])) e ∙ without_only draft))
 
-  pub unmoved_left : (call : Call) (cause : StoreErr) → RoseBy cause before now → (steps : List Step) → Begun (Rename draft target ∷ SyncNames ∷ []) steps → Left 0 (draft ∷ []) steps (moved_places call cause draft target)
-  unmoved_left call cause rose steps begun =
-      let kept : draft ∷ [] ≡ made_by 0 (draft ∷ []) steps = sym (begun_keeps (Rename draft target ∷ SyncNames ∷ []) steps (draft ∷ []) ((λ l. refl), refl, ((λ l. refl), refl, tt)) begun) in
+  pub unmoved_left : (call : Call) (cause : StoreErr) → RoseBy cause before now → (steps : List Step) → Unmoved draft target call cause steps → Left 0 (draft ∷ []) steps (moved_places call cause draft target)
+  unmoved_left call cause rose steps unmoved =
+      let kept : draft ∷ [] ≡ made_by 0 (draft ∷ []) steps = sym (begun_keeps (Rename draft target ∷ SyncNames ∷ []) steps (draft ∷ []) ((λ l. refl), refl, ((λ l. refl), refl, tt)) (begun_rename draft target call cause steps unmoved)) in
       by_call call cause rose kept
     where
       by_call : (call : Call) (cause : StoreErr) → RoseBy cause before now → draft ∷ [] ≡ made_by 0 (draft ∷ []) steps → Left 0 (draft ∷ []) steps (moved_places call cause draft target)
@@ -136,6 +143,28 @@ module _ (x : Work) (before now : ℕ) where
   pub notes_by : (M : List Step → Type 0) (K : Past → Type 0) (count : ℕ) (places had has left : List Parts) → has ≡ had ++ left → ((steps : List Step) → M steps → Left x.draft x.target x.bytes before now count places steps left) → (old new : Past) → RR x M K old new
       → Notes (Rose before now) (IsNaming x.draft x.target) count places had has old new
   notes_by M K count places had has left is by old new run = record { left = left; noted = is; leaves = leaves_by M K count places left by old new run }
+
+-- A rename whose end is unknown.
+
+pub tells_rename : (x : Work) (call : Call) (cause : StoreErr) (had has : List Parts) (old new : Past) → unknown_from cause ≡ Unknown → has ≡ left_by_move call cause x.draft x.target had → RR x (Unmoved x.draft x.target call cause) Anything old new → TellsRename x.draft x.target had has old new
+tells_rename x OnFile Failed had has old new e is run = inr is
+tells_rename x OnFile Memory had has old new e is run = absurd (cc (e))
+tells_rename x OnNames Failed had has old new e is run = inl (is, record { events = run.events; is = run.is; before = []; after = run.made.rest; among = run.made.is })
+tells_rename x OnNames Memory had has old new e is run = absurd (cc (e))
+
+-- behind other events
+takes_behind : (step : Step) (events : List Event) (old mid new : Past) → mid ≡ later old events → Takes step mid new → Takes step old new
+takes_behind step events old mid new is t = record {
+  events = events ++ t.events;
+  is = t.is ∙ ap (λ (p : Past). later p t.events) is ∙ later-later old events t.events;
+  before = ours events ++ t.before;
+  after = t.after;
+  among = ours-append events t.events ∙ ap (λ (l : List Step). ours events ++ l) t.among ∙ sym (append_assoc (ours events) t.before (step ∷ t.after));
+}
+
+pub rename_behind : (draft target : Parts) (events : List Event) (had has : List Parts) (old mid new : Past) → mid ≡ later old events → TellsRename draft target had has mid new → TellsRename draft target had has old new
+rename_behind draft target events had has old mid new is (inl one) = inl (one.0, takes_behind (Rename draft target) events old mid new is one.1)
+rename_behind draft target events had has old mid new is (inr both) = inr both
 
 -- behind a written draft
 pub notes_behind : (x : Work) (a b c : ℕ) → a ≤ b → (K : Past → Type 0) (count : ℕ) (had has : List Parts) (old mid new : Past) → RR x (Exactly (draft_plan x.draft x.bytes)) K old mid

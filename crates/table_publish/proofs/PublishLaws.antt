@@ -7,13 +7,14 @@ use Rattle.ice_store.specs.declared.history.Step.TheVariants.{Create, Rename, Re
 use Rattle.ice_store.specs.declared.store.StoreErr.{StoreErr}
 use Rattle.ice_store.specs.declared.store.StoreErr.TheVariants.{Failed, Memory}
 use Rattle.table_publish.specs.Stages.{Creating, AtRest, Exactly, Begun, BegunFill, Anything, Then, Partly, Reaching, draft_plan}
-use Rattle.table_publish.specs.Leaves.{Unmade, Undropped, UnwrittenLeaves, FinishLeaves, PublishLeaves}
+use Rattle.table_publish.specs.Leaves.{Unmade, Unmoved, Undropped, UnwrittenLeaves, FinishLeaves, PublishLeaves}
 use Rattle.table_history.proofs.Running.{ran_then, ran_turned}
 use Rattle.table_publish.specs.Logs.{LeftBy, left_by_move, left_by_drop, fault_from, unknown_from}
 use Rattle.table_publish.specs.declared.steps.Call.{Call}
 use Rattle.table_publish.specs.declared.steps.Call.TheVariants.{OnFile, OnNames}
 use Rattle.table_publish.specs.declared.publish.PublishErr.{PublishErr}
 use Rattle.table_publish.specs.declared.publish.PublishErr.TheVariants.{NameTaken, Contended, Unknown, Fault, NoMemory}
+use Rattle.table_publish.proofs.LeftLaws.{begun_rename}
 use Rattle.table_publish.proofs.CallLaws as calls
 use Rattle.table_publish.proofs.CallLaws.{Work, RR, K0, KD, KT, KL}
 
@@ -66,9 +67,12 @@ module _ (x : Work) where
   abbrev pub Finish : Result (Unit {0}) PublishErr → Past → Past → Type 0
   Finish = FinishLeaves x.number x.Good x.Reached x.allows x.base x.text x.target x.draft x.bytes
 
-  pub unmoved : (cause : StoreErr) (old new : Past) → RR x (Begun move_plan) Anything old new → Finish (Err (unknown_from cause)) old new
-  unmoved Failed old new run = run
-  unmoved Memory old new run = turned (Begun move_plan) (λ l. Begun move_plan l ⊎ Begun drop_plan l) old new (λ l b. inl b) run
+  pub unmoved : (call : Call) (cause : StoreErr) (old new : Past) → RR x (Unmoved x.draft x.target call cause) Anything old new → Finish (Err (unknown_from cause)) old new
+  unmoved call cause old new run = by_cause cause (turned (Unmoved x.draft x.target call cause) (Begun move_plan) old new (begun_rename x.draft x.target call cause) run)
+    where
+      by_cause : (cause : StoreErr) → RR x (Begun move_plan) Anything old new → Finish (Err (unknown_from cause)) old new
+      by_cause Failed run = run
+      by_cause Memory run = turned (Begun move_plan) (λ l. Begun move_plan l ⊎ Begun drop_plan l) old new (λ l b. inl b) run
 
   behind_none : (P : List Step → Type 0) (l k : List Step) → l ≡ [] → P k → P (l ++ k)
   behind_none P l k none here = subst (λ z. P (z ++ k)) (sym none) here

@@ -42,6 +42,12 @@ abbrev pub Unmade : Parts → StoreErr → List Step → Type 0
 Unmade draft Failed = Begun (Create draft ∷ [])
 Unmade draft Memory = Exactly []
 
+-- of a rename with the sync behind it: only where the rename itself failed it may not have taken place
+abbrev pub Unmoved : Parts → Parts → Call → StoreErr → List Step → Type 0
+Unmoved draft target OnFile Failed = Begun (Rename draft target ∷ [])
+Unmoved draft target OnFile Memory = Exactly []
+Unmoved draft target OnNames cause = Then (Rename draft target ∷ []) (Begun (SyncNames ∷ []))
+
 -- and of a removal with the sync behind it
 abbrev pub Undropped : Parts → Call → StoreErr → List Step → Type 0
 Undropped draft OnFile Failed = Begun (Remove draft ∷ [])
@@ -62,7 +68,7 @@ module _ (number : Parts → ℕ) (Good : GoodBy) (Reached : ReachBy) (allows : 
   MoveLeaves base text target draft bytes (Ok Done) old new =
       Ran number Good Reached allows (Exactly (Rename draft target ∷ SyncNames ∷ [])) (IsPublished number text bytes (IsBased number Good Reached base text old)) old new
   MoveLeaves base text target draft bytes (Ok There) old new = Ran number Good Reached allows (Exactly []) (At (Stage number base target AtRest (IsTaken draft bytes target))) old new
-  MoveLeaves base text target draft bytes (Err e) old new = Ran number Good Reached allows (Begun (Rename draft target ∷ SyncNames ∷ [])) Anything old new
+  MoveLeaves base text target draft bytes (Err e) old new = Ran number Good Reached allows (Unmoved draft target e.call e.cause) Anything old new
 
   abbrev pub DropLeaves : Parts → Parts → Result (Unit {0}) CallErr → Past → Past → Type 0
   DropLeaves draft target (Ok u) = Ran number Good Reached allows (Exactly (Remove draft ∷ SyncNames ∷ [])) (At (IsLost target))

@@ -75,6 +75,18 @@ pub record Notes (Risen : Type 0) (Tried : Step → Type 0) (count : ℕ) (befor
   pub noted : has ≡ had ++ left
   pub leaves : Leaves Risen Tried count before left old new
 
+-- this step was among those of Us between two moments
+pub record Takes (step : Step) (old new : Past) : Type 0 where
+  pub events : List Event
+  pub is : new ≡ later old events
+  pub before : List Step
+  pub after : List Step
+  pub among : ours events ≡ before ++ step ∷ after
+
+-- a rename whose end is unknown took place, and the draft stands in the log; or both of its names stand there
+abbrev pub TellsRename : Parts → Parts → List Parts → List Parts → Past → Past → Type 0
+TellsRename draft target had has old new = ((has ≡ had ++ draft ∷ []) × Takes (Rename draft target) old new) ⊎ (has ≡ had ++ draft ∷ target ∷ [])
+
 -- the steps of a publish that name a file
 abbrev pub IsNaming : Parts → Parts → Step → Type 0
 IsNaming draft target step = (step ≡ Create draft) ⊎ ((step ≡ Rename draft target) ⊎ (step ≡ Remove draft))

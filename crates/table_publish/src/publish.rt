@@ -1,5 +1,5 @@
 //! A publish: the new metadata becomes the next version of its table.
-ghost use Rattle.std.specs.Prelude.{◌≡◌, ◌≤◌, ◌<◌, ◌+◌, ◌++◌, ◌∷◌, [], true, IfErr, OnOk, OnErr, vec_len, vec_capacity};
+ghost use Rattle.std.specs.Prelude.{◌≡◌, ◌≤◌, ◌<◌, ◌+◌, ◌++◌, ◌∷◌, [], true, Err, IfErr, OnOk, OnErr, vec_len, vec_capacity};
 ghost use Rattle.ice_store.specs.Others.{WhereTold};
 ghost use Rattle.ice_store.specs.Since.{Since};
 ghost use Rattle.table_history.specs.Mannered.{IsMannered};
@@ -7,7 +7,7 @@ ghost use Rattle.table_history.specs.Versions.{number_in};
 ghost use Rattle.table_publish.specs.Stages.{Narrow, NoReach, Creating, AtRest, Aim, Stage, NoFile, HasDraft, At};
 ghost use Rattle.table_publish.specs.Leaves.{PublishLeaves, FinishLeaves, WriteLeaves, Halts};
 ghost use Rattle.ice_store.specs.Calls.{Rose};
-ghost use Rattle.table_publish.specs.Left.{Leaves, Notes, IsNaming, draft_if, committed_count};
+ghost use Rattle.table_publish.specs.Left.{Leaves, Notes, IsNaming, TellsRename, draft_if, committed_count};
 ghost use Rattle.table_publish.specs.Logs.{PublishRose, WriteRose, IsMadeBy, LeftBy, committed_by, left_by_move, left_by_drop, is_failed, fault_from, unknown_from};
 
 use crate::steps::{Call, CallErr, Format, Route, drop_draft, fill_draft, make_draft, move_draft};
@@ -124,6 +124,7 @@ pub fn publish<F: Format, M: Manners, S: Store<M>>(
     ensures committed { log.new.committed.items ≡ committed_by version result log.old.committed.items }
     ensures left { LeftBy route.now.draft route.now.target result log.old.left.items log.new.left.items }
     ensures noted { Since (S.past store.old) (S.past store.new) (Notes (Rose (S.faults store.old) (S.faults store.new)) (IsNaming route.now.draft route.now.target) (committed_count result) [] log.old.left.items log.new.left.items) }
+    ensures renamed { result ≡ Err PublishErr.Unknown → Since (S.past store.old) (S.past store.new) (TellsRename route.now.draft route.now.target log.old.left.items log.new.left.items) }
 {
     let (Ok(draft), Ok(target)) = (route.draft.copy(), route.target.copy()) else {
         return Err(PublishErr::NoMemory);
@@ -192,6 +193,7 @@ fn finish<F: Format, M: Manners, S: Store<M>>(
     ensures committed { log.new.committed.items ≡ committed_by version result log.old.committed.items }
     ensures left { LeftBy route.now.draft route.now.target result log.old.left.items log.new.left.items }
     ensures noted { Since (S.past store.old) (S.past store.new) (Notes (Rose (S.faults store.old) (S.faults store.new)) (IsNaming route.now.draft route.now.target) (committed_count result) (route.now.draft ∷ []) log.old.left.items log.new.left.items) }
+    ensures renamed { result ≡ Err PublishErr.Unknown → Since (S.past store.old) (S.past store.new) (TellsRename route.now.draft route.now.target log.old.left.items log.new.left.items) }
 {
     match move_draft::<F, M, S>(store, route, bytes) {
         Ok(Moved::Done) => {

@@ -53,7 +53,7 @@ one_publish : (draft target : Parts) (bytes : List ℕ) (n : ℕ) (rest : List S
 one_publish draft target bytes n rest = ap (λ (l : List Parts). made_by n l rest) (without_only draft)
 
 -- versions were added, and of the places that the steps made none is left
-record Cleared (before after : List ℕ) (old new : Past) : Type 0 where
+pub record Cleared (before after : List ℕ) (old new : Past) : Type 0 where
   pub events : List Event
   pub is : new ≡ later old events
   pub more : List ℕ
@@ -110,7 +110,7 @@ done_cleared t p q e =
     since_turned p.past q.past (Did t e.now (Gives p.identifiers q.identifiers) e.end Done p.output q.output) (Cleared p.committed q.committed) e.did
     (λ old now d. cleared_ok c.0 p.committed q.committed old now committed (subst (λ (x : End). Took (DoneSteps x) old now) c.1 d.took))
 
-leads_cleared : (ts : List Task) (p q : Point) → Leads IsDone ts p q → Since p.past q.past (Cleared p.committed q.committed)
+pub leads_cleared : (ts : List Task) (p q : Point) → Leads IsDone ts p q → Since p.past q.past (Cleared p.committed q.committed)
 leads_cleared [] p q h =
     subst (λ (x : Point). Since p.past x.past (Cleared p.committed x.committed)) (sym h)
     (since_start p.past Anything (Cleared p.committed p.committed) (told_any p.past) (λ old any. cleared_none p.committed old))

@@ -12,3 +12,4 @@ mod WordSteps
 mod TaskSteps
 pub mod LeftLaws
 pub mod RefusalLaws
+mod FailLaws

@@ -10,13 +10,13 @@ use Rattle.ice_store.proofs.SinceLaws.{since_turned, since_then, since_start}
 use Rattle.table_publish.specs.Stages.{Anything}
 use Rattle.ice_store.specs.declared.history.Past.{Past}
 use Rattle.run_answers.specs.declared.status.Status.{Status}
-use Rattle.run_answers.specs.declared.status.Status.TheVariants.{Done, BadStatement, OutFault, OutOfMemory}
+use Rattle.run_answers.specs.declared.status.Status.TheVariants.{Done, BadStatement, StoreFault, CommitUnknown, OutFault, OutOfMemory}
 use Rattle.upkeep_top.specs.Points.{Point}
 use Rattle.upkeep_top.specs.Chains.{Leads}
 use Rattle.commit_protocol.specs.Promises.{AtEachStop, HasPrefix, HasFiles}
 use Rattle.commit_protocol.proofs.PromiseLaws.{prefixes, files}
 use Rattle.table_publish.proofs.LeftLaws.{rose_on}
-use Rattle.upkeep_top.specs.Runs.{IsDone, IsRefusal, RanAsked, RunsBy, Runs, TellsBadArgument, Row, LastRow, ComesExactly, LastAsks, IsComplete, IsSafeRun, KeepsPrefix, KeepsFiles, EachSucceeds, TellsVersions, LeavesPlaces, MayLeave}
+use Rattle.upkeep_top.specs.Runs.{IsDone, IsRefusal, RanAsked, RunsBy, Runs, TellsBadArgument, Row, LastRow, ComesExactly, LastAsks, IsComplete, IsSafeRun, KeepsPrefix, KeepsFiles, EachSucceeds, TellsVersions, LeavesPlaces, TellsFaultAt, TellsUnknown, MayLeave}
 use Rattle.upkeep_top.specs.Statements.{Ends, Did, Nobody, Any, IsSafeFor, Halts}
 use Rattle.upkeep_top.specs.Verdicts.{Verdict, IsFree, end_status}
 use Rattle.upkeep_top.specs.Words.{IsBadWord, RefusesWords}
@@ -25,6 +25,7 @@ use Rattle.upkeep_top.proofs.VerdictLaws.{one_end, is_free, free_is, causes, Cau
 use Rattle.upkeep_top.proofs.StopLaws.{told_any, safe_none, safe_run}
 use Rattle.upkeep_top.proofs.LeftLaws.{leaves_places}
 use Rattle.upkeep_top.proofs.RefusalLaws as refusals
+use Rattle.upkeep_top.proofs.FailLaws.{fault_place, unknown_rename}
 use Rattle.upkeep_top.proofs.VersionLaws.{done_rests, nothing_left, tells_versions}
 use Rattle.upkeep_top.proofs.SuccessorLaws.{each_succeeds}
 use Rattle.upkeep_top.proofs.WordLaws.{one_refusal, never_refused, one_table}
@@ -190,6 +191,18 @@ complete words status p q r = complete_by words status p q r.how
 
 pub store_rose : (words : List (List ℕ)) (status : Status) (p q : Point) → Runs words status p q → IsStoreFault status → Rose p.faults q.faults
 store_rose words status p q r f = store_by words status p q r.how f
+
+pub fault_at : (words : List (List ℕ)) (status : Status) (p q : Point) → Runs words status p q → p.left ≡ [] → (place : Parts) → status ≡ StoreFault place → TellsFaultAt words place q.left
+fault_at words status p q r empty place is = elim r.how [
+  | inl refusal ↦ absurd (refused_fault words status p q refusal.0 (inl (place, is)))
+  | inr ran ↦ fault_place words status p q empty ran place is
+]
+
+pub renamed : (words : List (List ℕ)) (status : Status) (p q : Point) → Runs words status p q → p.left ≡ [] → (version : ℕ) → status ≡ CommitUnknown version → Since p.past q.past (TellsUnknown words version q.left)
+renamed words status p q r empty version is = elim r.how [
+  | inl refusal ↦ absurd (refused_fault words status p q refusal.0 (inr (version, is)))
+  | inr ran ↦ unknown_rename words status p q empty ran version is
+]
 
 pub output_rose : (words : List (List ℕ)) (status : Status) (p q : Point) → Runs words status p q → status ≡ OutFault → Rose p.output_faults q.output_faults
 output_rose words status p q r f = output_by words status p q r.how f

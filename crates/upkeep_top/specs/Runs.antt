@@ -10,7 +10,8 @@ use Rattle.table_history.specs.Versions.{number_in}
 use Rattle.commit_protocol.specs.Promises.{StopsHavePrefix, StopsHaveFiles}
 use Rattle.commit_protocol.specs.Verdicts.{IsOneDrawn}
 use Rattle.commit_protocol.specs.Written.{draft_at, version_at}
-use Rattle.table_publish.specs.Left.{IsNaming, Leaves}
+use Rattle.table_publish.specs.Left.{IsNaming, Leaves, TellsRename}
+use Rattle.version_open.specs.Opening.{IsAskedFor}
 use Rattle.ice_store.specs.declared.history.Step.{Step}
 use Rattle.run_answers.specs.declared.status.Status.{Status}
 use Rattle.run_answers.specs.declared.status.Status.TheVariants.{Done, BadArgument, StoreFault, CommitUnknown, OutOfMemory}
@@ -142,6 +143,14 @@ IsNamingIn table step = (id : ℕ) × (version : ℕ) × IsNaming (draft_at tabl
 -- the places that are left are those that the run created and neither removed nor renamed to a version that it tells of; beside them stands one that a failed step names, where the count of faults rose
 abbrev pub LeavesPlaces : List (List ℕ) → List ℕ → List Parts → Type 0 → Past → Past → Type 0
 LeavesPlaces words committed left Risen old new = ((new ≡ old) × (left ≡ [])) ⊎ ((table : Parts) × AskOf words table × Leaves Risen (IsNamingIn table) (length committed) [] left old new)
+
+-- a store fault is told at a place that the run asked for: the table, its metadata's folder or a version's place; or at a new metadata file, which then is left
+abbrev pub TellsFaultAt : List (List ℕ) → Parts → List Parts → Type 0
+TellsFaultAt words place left = (table : Parts) × AskOf words table × ((place ≡ table) ⊎ (IsAskedFor table place ⊎ ((id : ℕ) × (place ≡ draft_at table id) × (left ≡ place ∷ []))))
+
+-- a commit whose end is unknown: the rename to the version took place, and the new metadata file's name is left; or both of its names are
+abbrev pub TellsUnknown : List (List ℕ) → ℕ → List Parts → Past → Past → Type 0
+TellsUnknown words version left old new = (table : Parts) × AskOf words table × ((id : ℕ) × TellsRename (draft_at table id) (version_at table version) [] left old new)
 
 -- a status after which places may have been left
 abbrev pub MayLeave : Status → Type 0

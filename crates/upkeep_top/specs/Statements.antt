@@ -10,14 +10,20 @@ use Rattle.ice_store.specs.Since.{Since}
 use Rattle.ice_store.specs.declared.history.Held.{Held}
 use Rattle.ice_store.specs.declared.history.Past.{Past}
 use Rattle.ice_store.specs.declared.history.Step.{Step}
+use Rattle.ice_store.specs.declared.faults.ReadErr.TheVariants.{StoreFault}
 use Rattle.table_history.specs.Runs.{Ran}
 use Rattle.table_history.specs.Versions.{number_in}
 use Rattle.table_publish.specs.Left.{Notes}
 use Rattle.table_publish.specs.Stages.{Narrow, NoReach, Anything}
+use Rattle.version_open.specs.Opening.{OpenFaultAt}
+use Rattle.version_open.specs.declared.types.OpenErr.{OpenErr}
 use Rattle.commit_protocol.specs.Causes.{CommitRose}
+use Rattle.commit_protocol.specs.Failures.{IsFaultOf, IsUnknownEnd}
 use Rattle.commit_protocol.specs.Metadata.{IsTableOf}
 use Rattle.commit_protocol.specs.Verdicts.{IsIdle}
 use Rattle.commit_protocol.specs.Written.{CommitLeft, IsNamingOf, commits, commit_count}
+use Rattle.commit_protocol.specs.declared.errors.AttemptErr.TheVariants as attempts
+use Rattle.commit_protocol.specs.declared.errors.CommitErr.TheVariants.{Open, Attempt, CommitUnknown}
 use Rattle.run_answers.specs.Answers.{status_of}
 use Rattle.run_answers.specs.declared.status.Status.{Status}
 use Rattle.run_answers.specs.declared.status.Status.TheVariants.{Done, UnknownSnapshot, OutFault, OutOfMemory}
@@ -86,6 +92,12 @@ pub record Did (task : Task) (now : ℕ) (Drawn : ℕ → Type 0) (end : End) (s
 abbrev pub Halts : Option ℕ → Option ℕ → Option Past → Type 0
 Halts before now told = (now ≡ before) ⊎ WhereTold told (λ past. now ≡ Some (length past.events))
 
+-- what a statement tells of a failed call: the place that it was asked for; and what it names of ours stands in the log
+pub record Fails (table : Parts) (Drawn : ℕ → Type 0) (end : End) (had has : List Parts) (old new : Option Past) : Type 0 where
+  pub opening : (e : OpenErr) → end ≡ Err (Open e) → OpenFaultAt table e
+  pub fault : (place : Parts) → end ≡ Err (Attempt (attempts.Read (StoreFault place))) → IsFaultOf Drawn table place had has
+  pub renamed : (version : ℕ) → end ≡ Err (CommitUnknown version) → Since old new (IsUnknownEnd Drawn table version had has)
+
 -- a statement was run from one moment of the run to another, and ended so
 pub record Ends (task : Task) (status : Status) (p q : Point) : Type 0 where
   pub now : ℕ
@@ -96,6 +108,7 @@ pub record Ends (task : Task) (status : Status) (p q : Point) : Type 0 where
   pub committed : q.committed ≡ commits end p.committed
   pub left : CommitLeft (Gives p.identifiers q.identifiers) task.table end p.left q.left
   pub noted : Since p.past q.past (Notes (Rose p.faults q.faults) (IsNamingOf (Gives p.identifiers q.identifiers) task.table) (commit_count end) [] p.left q.left)
+  pub fails : Fails task.table (Gives p.identifiers q.identifiers) end p.left q.left p.past q.past
   pub faults : CommitRose end p.faults q.faults
   pub later : p.faults ≤ q.faults
   pub output_faults : status ≡ OutFault → Rose p.output_faults q.output_faults

@@ -11,7 +11,7 @@ ghost use Rattle.run_answers.specs.Messages.{message_line};
 ghost use Rattle.run_answers.specs.Puts.{TakesPrefix, TakesAll};
 ghost use Rattle.run_answers.specs.declared.status.Status.{Status as TheStatus};
 ghost use Rattle.upkeep_top.specs.Points.{point};
-ghost use Rattle.upkeep_top.specs.Runs.{Ended, Runs, TellsBadArgument, ComesExactly, IsComplete, IsSafeRun, KeepsPrefix, KeepsFiles, EachSucceeds, TellsVersions, LeavesPlaces, MayLeave};
+ghost use Rattle.upkeep_top.specs.Runs.{Ended, Runs, TellsBadArgument, ComesExactly, IsComplete, IsSafeRun, KeepsPrefix, KeepsFiles, EachSucceeds, TellsVersions, LeavesPlaces, TellsFaultAt, TellsUnknown, MayLeave};
 ghost use Rattle.upkeep_top.specs.Statements.{Halts};
 ghost use Rattle.upkeep_top.specs.Words.{RefusesWords};
 ghost use Rattle.upkeep_top.specs.declared.task.Task.{Task as TheTask};
@@ -119,6 +119,8 @@ pub fn run<R: AllocGlobal, S: Store<Alone>, C: Clock, I: Ids, O: Sink, X: Sink>(
     ensures complete { IsComplete words.now result.status (S.past store.old) (S.past store.new) (Rose (S.faults store.old) (S.faults store.new)) (Rose (O.faults out.old) (O.faults out.new)) }
     ensures store_fault { (place : Parts) → result.status ≡ Status.StoreFault place → Rose (S.faults store.old) (S.faults store.new) }
     ensures unknown { (version : ℕ) → result.status ≡ Status.CommitUnknown version → Rose (S.faults store.old) (S.faults store.new) }
+    ensures fault_place { (place : Parts) → result.status ≡ Status.StoreFault place → TellsFaultAt words.now place result.left }
+    ensures renamed { (version : ℕ) → result.status ≡ Status.CommitUnknown version → Since (S.past store.old) (S.past store.new) (TellsUnknown words.now version result.left) }
     ensures out_fault { result.status ≡ Status.OutFault → Rose (O.faults out.old) (O.faults out.new) }
     ensures safe { Since (S.past store.old) (S.past store.new) (IsSafeRun words.now) }
     ensures prefix { Since (S.past store.old) (S.past store.new) (KeepsPrefix words.now) }

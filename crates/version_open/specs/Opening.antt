@@ -1,5 +1,5 @@
 -- What opening the last version of a table tells (Iceberg table specification, "File System Tables").
-use Rattle.std.specs.Prelude.{◌≡◌, ◌⊎◌, ℕ, ◌+◌, ◌-◌, ◌^◌, ◌<◌, ◌≤◌, Bool, true, false, List, [], length, nat_lt, if◌then◌else◌, Some, Result, Ok, Err}
+use Rattle.std.specs.Prelude.{◌≡◌, ◌⊎◌, ℕ, ◌+◌, ◌-◌, ◌^◌, ◌<◌, ◌≤◌, Bool, true, false, List, [], ◌∷◌, ◌++◌, length, nat_lt, if◌then◌else◌, Some, Result, Ok, Err}
 use Rattle.std.specs.Cmp.Lexicographic.{slice_cmp}
 use Rattle.std.specs.Ordering.{nat_cmp, is_lt}
 use Rattle.ice_store.specs.Places.{Parts, joined}
@@ -14,6 +14,7 @@ use Rattle.ice_store.specs.declared.faults.What.TheVariants.{Codec, FormatVersio
 use Rattle.ice_store.specs.declared.faults.ReadErr.{ReadErr}
 use Rattle.ice_store.specs.declared.faults.ReadErr.TheVariants.{Missing, Damaged, Unsupported, StoreFault, Memory}
 use Rattle.table_history.specs.Tables.{GoodBy, ReachBy, version, sealed_at}
+use Rattle.table_history.specs.Versions.{number_in, folder}
 use Rattle.table_history.specs.Commits.{standing}
 use Rattle.table_history.specs.Steady.{Steady}
 use Rattle.table_history.specs.Runs.{Ran}
@@ -175,6 +176,23 @@ module _ (number : Parts → ℕ) (Good : GoodBy) (Reached : ReachBy) (allows : 
   OpenLeaves table (Err (NoTable place)) old now = (place ≡ table) × Idle (At (λ d. version number d.files ≡ 0)) old now
   OpenLeaves table (Err (LocationDiffers place location)) old now = ⊥
   OpenLeaves table (Err (Read e)) old now = ReadErrLeaves e old now
+
+-- what an opening asks the store for: its metadata's folder, or a version's place
+abbrev pub IsAskedFor : Parts → Parts → Type 0
+IsAskedFor table place = (place ≡ table ++ folder ∷ []) ⊎ (0 < number_in table place)
+
+-- the place of a fault is that of the call that failed
+abbrev pub FaultAt : Parts → ReadErr → Type 0
+FaultAt table (Missing place) = Unit {0}
+FaultAt table (Damaged place at) = Unit {0}
+FaultAt table (Unsupported place what) = Unit {0}
+FaultAt table (StoreFault place) = IsAskedFor table place
+FaultAt table Memory = Unit {0}
+
+abbrev pub OpenFaultAt : Parts → OpenErr → Type 0
+OpenFaultAt table (NoTable place) = Unit {0}
+OpenFaultAt table (LocationDiffers place location) = Unit {0}
+OpenFaultAt table (Read e) = FaultAt table e
 
 abbrev pub FaultRose : ReadErr → ℕ → ℕ → Type 0
 FaultRose (Missing place) before now = Unit {0}

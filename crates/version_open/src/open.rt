@@ -8,7 +8,7 @@ ghost use Rattle.table_history.specs.Mannered.{IsMannered};
 ghost use Rattle.table_history.specs.Versions.{number_in, folder};
 ghost use Rattle.table_publish.specs.Stages.{Narrow, NoReach, Creating, At};
 ghost use Rattle.table_publish.specs.Leaves.{Halts};
-ghost use Rattle.version_open.specs.Opening.{OpenStage, FindLeaves, ReadLeaves, ReadOpened, FoundStage, FoundLeaves, OpenLeaves, OpenRose, text_by};
+ghost use Rattle.version_open.specs.Opening.{OpenStage, FindLeaves, ReadLeaves, ReadOpened, FoundStage, FoundLeaves, OpenLeaves, OpenRose, OpenFaultAt, text_by};
 ghost use Rattle.version_open.specs.Latest.{IsLatest, IsBaseNumber, IsFound, HasBaseNumber};
 
 use crate::types::{FILE_LIMIT, Found, Latest, OpenErr, Opened, Text, VERSION_LIMIT};
@@ -140,6 +140,7 @@ fn read_opened<F: Format, M: Manners, S: Store<M>>(
     ensures numbers { IfOk result (λ o. IsBaseNumber (number_in table.now) o.place o.version) }
     ensures manners { S.manners store.new ≡ S.manners store.old }
     ensures cause { OpenRose result (S.faults store.old) (S.faults store.new) }
+    ensures place { IfErr result (λ e. OpenFaultAt table.now e) }
     ensures later { S.faults store.old ≤ S.faults store.new }
     ensures halted { Halts result (S.halted store.old) (S.halted store.new) (S.past store.new) }
 {
@@ -174,6 +175,7 @@ fn open_found<F: Format, M: Manners, S: Store<M>>(
     ensures numbers { IfOk result (λ o. IsBaseNumber (number_in table.now) o.place o.version) }
     ensures manners { S.manners store.new ≡ S.manners store.old }
     ensures cause { OpenRose result (S.faults store.old) (S.faults store.new) }
+    ensures place { IfErr result (λ e. OpenFaultAt table.now e) }
     ensures later { S.faults store.old ≤ S.faults store.new }
     ensures halted { Halts result (S.halted store.old) (S.halted store.new) (S.past store.new) }
 {
@@ -199,6 +201,7 @@ pub fn open_version<F: Format, M: Manners, S: Store<M>>(
     ensures numbers { IfOk result (λ o. IsBaseNumber (number_in table.now) o.place o.version) }
     ensures manners { S.manners store.new ≡ S.manners store.old }
     ensures cause { OpenRose result (S.faults store.old) (S.faults store.new) }
+    ensures place { IfErr result (λ e. OpenFaultAt table.now e) }
     ensures later { S.faults store.old ≤ S.faults store.new }
     ensures halted { Halts result (S.halted store.old) (S.halted store.new) (S.past store.new) }
 {

@@ -1,4 +1,4 @@
-use Rattle.std.proofs.Common.{ℕ, List, [], Option, Ok, Err, refl, sym, ◌∙◌, subst, arith, true≢false}
+use Rattle.std.proofs.Common.{◌≡◌, inl, inr, ℕ, List, [], Option, Ok, Err, refl, sym, ◌∙◌, subst, arith, true≢false}
 use Rattle.ice_store.specs.Calls.{Rose}
 use Rattle.ice_store.specs.Places.{Parts}
 use Rattle.table_history.specs.Runs.{Ran}
@@ -14,10 +14,16 @@ use Rattle.version_open.specs.Opening.{OpenStage}
 use Rattle.commit_protocol.specs.Metadata.{IsTableOf}
 use Rattle.commit_protocol.specs.Written.{PublishedLeaves, IsNamingOf, commit_count}
 use Rattle.commit_protocol.proofs.NoteLaws.{notes_none, notes_after}
+use Rattle.commit_protocol.proofs.FailureLaws.{limit_no_fault, limit_no_unknown, limit_opens_nothing, unknown_behind}
+use Rattle.commit_protocol.specs.Failures.{IsFaultOf, IsUnknownEnd}
+use Rattle.commit_protocol.specs.declared.errors.AttemptErr.{AttemptErr}
+use Rattle.commit_protocol.specs.declared.errors.CommitErr.{CommitErr}
+use Rattle.commit_protocol.specs.declared.errors.AttemptErr.TheVariants as attempts
+use Rattle.ice_store.specs.declared.faults.ReadErr.TheVariants.{StoreFault}
 use Rattle.commit_protocol.specs.Attempts.{MakesOf, AttemptLeaves}
 use Rattle.commit_protocol.specs.declared.change.Built.{Built}
 use Rattle.commit_protocol.specs.declared.change.Built.TheVariants.{Same as Unchanged, Next}
-use Rattle.commit_protocol.specs.declared.errors.CommitErr.TheVariants.{Attempt}
+use Rattle.commit_protocol.specs.declared.errors.CommitErr.TheVariants.{Open, Attempt, CommitUnknown}
 use Rattle.commit_protocol.specs.declared.errors.Committed.TheVariants.{Same}
 use Rattle.commit_protocol.proofs.CommitLaws as laws
 use Rattle.commit_protocol.proofs.commit.attempt_on.Goals as goal
@@ -181,3 +187,48 @@ returns-in-Err-clause-noted g c =
     let has = c.attempt.new.log.left.items in
     since_turned p0 p1 (Ran (number_in t) (Narrow IsTableOf t) NoReach allows (Exactly []) K) (Notes risen (IsNamingOf Drawn t) 0 [] had has) c.in-Err.ensures.told
     (λ old new run. notes_none (number_in t) (Narrow IsTableOf t) NoReach allows (IsNamingOf Drawn t) risen K had has old new c.in-Err.ensures.left run)
+
+pub returns-then-not-has_version_limit-clause-unopened : goal.returns-then-not-has_version_limit-clause-unopened
+returns-then-not-has_version_limit-clause-unopened g c opening is =
+    let error : ◌≡◌ {A = CommitErr} c.unreadable_limit.result (Open opening) = cc (is) in
+    absurd (limit_opens_nothing c.args.at.place c.unreadable_limit.result opening c.unreadable_limit.ensures error)
+
+pub returns-then-not-has_version_limit-clause-fault : goal.returns-then-not-has_version_limit-clause-fault
+returns-then-not-has_version_limit-clause-fault g c place is =
+    let same : c.unreadable_limit.result ≡ Attempt (attempts.Read (StoreFault place)) = cc (is) in
+    absurd (limit_no_fault c.args.at.place c.unreadable_limit.result place c.unreadable_limit.ensures same)
+
+pub returns-then-not-has_version_limit-clause-renamed : goal.returns-then-not-has_version_limit-clause-renamed
+returns-then-not-has_version_limit-clause-renamed g c version is =
+    let same : c.unreadable_limit.result ≡ CommitUnknown version = cc (is) in
+    absurd (limit_no_unknown c.args.at.place c.unreadable_limit.result version c.unreadable_limit.ensures same)
+
+pub returns-in-Err-clause-fault : goal.returns-in-Err-clause-fault
+returns-in-Err-clause-fault g c place is =
+    let same : c.in-Err.e ≡ attempts.Read (StoreFault place) = cc (is) in
+    inl (view c.args.at.meta, subst (λ (x : AttemptErr). g.X.Change.refuses c.args.change.now (view c.args.at.meta) x) same c.in-Err.ensures.refused)
+
+pub returns-in-Ok-Next-clause-fault : goal.returns-in-Ok-Next-clause-fault
+returns-in-Ok-Next-clause-fault g c place is =
+    let t = c.args.table.now in
+    let last = g.I.Ids.given c.publish_built.new.ids in
+    let has = c.publish_built.new.log.left.items in
+    let by_ids = subst (λ (i : Option (List ℕ)). IsFaultOf (Gives i last) t place c.attempt.new.log.left.items has) c.in-Ok-Next.ensures.drawn (c.publish_built.ensures.fault place is) in
+    inr (subst (λ (l : List Parts). IsFaultOf (Gives (g.I.Ids.given c.args.ids.now) last) t place l has) c.in-Ok-Next.ensures.left by_ids)
+
+pub returns-in-Ok-Next-clause-renamed : goal.returns-in-Ok-Next-clause-renamed
+returns-in-Ok-Next-clause-renamed g c version is =
+    let t = c.args.table.now in
+    let allows = g.M.Manners.allows (g.S.Store.manners c.args.store.now) in
+    let p0 = g.S.Store.past c.args.store.now in
+    let p1 = g.S.Store.past c.attempt.new.store in
+    let p2 = g.S.Store.past c.publish_built.new.store in
+    let K = Stands (OpenStage (number_in t) c.args.at.place) in
+    let last = g.I.Ids.given c.publish_built.new.ids in
+    let Drawn = Gives (g.I.Ids.given c.args.ids.now) last in
+    let had = c.args.log.now.left.items in
+    let has = c.publish_built.new.log.left.items in
+    let by_ids = subst (λ (i : Option (List ℕ)). Since p1 p2 (IsUnknownEnd (Gives i last) t version c.attempt.new.log.left.items has)) c.in-Ok-Next.ensures.drawn (c.publish_built.ensures.renamed version is) in
+    let by_log = subst (λ (l : List Parts). Since p1 p2 (IsUnknownEnd Drawn t version l has)) c.in-Ok-Next.ensures.left by_ids in
+    since_then p0 p1 p2 (Ran (number_in t) (Narrow IsTableOf t) NoReach allows (Exactly []) K) (IsUnknownEnd Drawn t version had has) (IsUnknownEnd Drawn t version had has) c.in-Ok-Next.ensures.told by_log
+    (λ old mid new run u. unknown_behind Drawn t version run.events had has old mid new run.is u)

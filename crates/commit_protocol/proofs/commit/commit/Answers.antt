@@ -1,4 +1,4 @@
-use Rattle.std.proofs.Common.{[], Err, refl, subst}
+use Rattle.std.proofs.Common.{◌≡◌, [], Err, refl, subst}
 use Rattle.ice_store.specs.Calls.{Rose}
 use Rattle.commit_protocol.specs.declared.errors.CommitErr.TheVariants.{Open}
 use Rattle.ice_store.specs.History.{replay}
@@ -12,6 +12,10 @@ use Rattle.commit_protocol.specs.Metadata.{IsTableOf}
 use Rattle.commit_protocol.specs.Metadata.{IsAt, OpenErrLeaves}
 use Rattle.commit_protocol.specs.Written.{IsNamingOf, commit_count}
 use Rattle.commit_protocol.proofs.NoteLaws.{notes_none, notes_after}
+use Rattle.commit_protocol.proofs.FailureLaws.{unknown_behind}
+use Rattle.commit_protocol.specs.Failures.{IsUnknownEnd}
+use Rattle.commit_protocol.specs.declared.errors.CommitErr.{CommitErr}
+use Rattle.version_open.specs.Opening.{OpenFaultAt}
 use Rattle.commit_protocol.proofs.StepLaws.{opened_idle, open_err_idle}
 use Rattle.commit_protocol.proofs.PromiseLaws.{stops_have_prefix, stops_have_files, each_succeeds}
 use Rattle.commit_protocol.specs.Attempts.{AttemptLeaves, CommitLeaves}
@@ -163,3 +167,26 @@ returns-in-Err-clause-successors g c nobody =
     let seen = g.X.Change.seen c.args.change.now c.args.change.now in
     let Drawn = Gives (g.I.Ids.given c.args.ids.now) (g.I.Ids.given c.args.ids.now) in
     each_succeeds c.args.table.now allows (g.X.Change.successor c.args.change.now) (g.X.Change.same c.args.change.now) (g.X.Change.refuses c.args.change.now) seen Drawn c.args.now (Err (Open c.in-Err.e)) (g.S.Store.past c.args.store.now) (g.S.Store.past c.open_table.new.store) nobody c.in-Err.ensures.told
+
+pub returns-in-Err-clause-opening : goal.returns-in-Err-clause-opening
+returns-in-Err-clause-opening g c e is =
+    let error : ◌≡◌ {A = CommitErr} (Open c.in-Err.e) (Open e) = cc (is) in
+    let same : c.in-Err.e ≡ e = cc (error) in
+    subst (OpenFaultAt c.args.table.now) same c.in-Err.ensures.place
+
+pub returns-in-Ok-clause-renamed : goal.returns-in-Ok-clause-renamed
+returns-in-Ok-clause-renamed g c version is =
+    let t = c.args.table.now in
+    let allows = g.M.Manners.allows (g.S.Store.manners c.args.store.now) in
+    let p0 = g.S.Store.past c.args.store.now in
+    let had = c.args.log.now.left.items in
+    let at = c.in-Ok.at in
+    let p1 = g.S.Store.past c.open_table.new.store in
+    let p2 = g.S.Store.past c.attempt_on.new.store in
+    let Drawn = Gives (g.I.Ids.given c.args.ids.now) (g.I.Ids.given c.attempt_on.new.ids) in
+    let has = c.attempt_on.new.log.left.items in
+    since_then p0 p1 p2 (IsAt (number_in t) (Narrow IsTableOf t) NoReach allows t at) (IsUnknownEnd Drawn t version had has) (IsUnknownEnd Drawn t version had has) c.in-Ok.ensures.told (c.attempt_on.ensures.renamed version is)
+    (λ old mid new opened u. let run = opened_idle (number_in t) (Narrow IsTableOf t) NoReach allows at.place at.text old mid opened.opened in unknown_behind Drawn t version run.events had has old mid new run.is u)
+
+pub returns-in-Ok-clause-opening : goal.returns-in-Ok-clause-opening
+returns-in-Ok-clause-opening g c e is = absurd (c.attempt_on.ensures.unopened e is)

@@ -10,11 +10,16 @@ use Rattle.table_publish.specs.Stages.{Narrow, NoReach, At as Stands}
 use Rattle.table_publish.specs.Leaves.{PublishLeaves}
 use Rattle.version_open.specs.Opening.{OpenStage}
 use Rattle.commit_protocol.specs.Metadata.{IsTableOf}
-use Rattle.table_publish.specs.Left.{IsNaming, Notes}
+use Rattle.table_publish.specs.Left.{IsNaming, Notes, TellsRename}
+use Rattle.table_publish.specs.declared.publish.PublishErr.{PublishErr}
+use Rattle.ice_store.specs.declared.faults.ReadErr.TheVariants.{StoreFault}
+use Rattle.commit_protocol.specs.Failures.{IsUnknownEnd}
+use Rattle.commit_protocol.specs.declared.errors.AttemptErr.TheVariants as attempts
+use Rattle.commit_protocol.proofs.FailureLaws.{unwritten_plainly, publish_opens_nothing, publish_fault, unknown_publish, unknown_end}
 use Rattle.commit_protocol.specs.Written.{commit_error_by, CommitLeft, IsNamingOf}
 use Rattle.commit_protocol.proofs.NoteLaws.{notes_none, notes_named}
 use Rattle.commit_protocol.specs.declared.errors.CommitErr.{CommitErr}
-use Rattle.commit_protocol.specs.declared.errors.CommitErr.TheVariants.{Attempt}
+use Rattle.commit_protocol.specs.declared.errors.CommitErr.TheVariants.{Open, Attempt, CommitUnknown}
 use Rattle.commit_protocol.specs.declared.errors.Committed.TheVariants.{Published}
 use Rattle.commit_protocol.proofs.CommitLaws as laws
 use Rattle.commit_protocol.proofs.commit.publish_built.Goals as goal
@@ -127,3 +132,43 @@ returns-clause-noted g c =
     let is = c.in-Ok.ensures.ok in
     since_turned p0 p1 (Notes risen (IsNaming route.draft route.target) 0 [] had has) (Notes risen (IsNamingOf Drawn t) 0 [] had has) c.in-Err-publish_version.ensures.noted
     (λ old new n. notes_named risen Drawn t route.draft route.target c.next-id.result (c.args.at.version + 1) 0 had has old new c.next-id.ensures is.draft is.target n)
+
+pub returns-in-Err-clause-fault : goal.returns-in-Err-clause-fault
+returns-in-Err-clause-fault g c place is =
+    let same : c.in-Err.e ≡ attempts.Read (StoreFault place) = cc (is) in
+    absurd (unwritten_plainly c.args.table.now c.args.at (view c.args.meta) c.args.now c.next-id.result c.in-Err.e place c.in-Err.ensures.err same)
+
+pub returns-clause-unopened : goal.returns-clause-unopened
+returns-clause-unopened g c opening is =
+    let error : ◌≡◌ {A = CommitErr} c.commit_error.result (Open opening) = cc (is) in
+    let draft = c.in-Ok.written.route.draft in
+    publish_opens_nothing c.in-Err-publish_version.e draft c.in-Ok.written.route.table (c.args.at.version + 1) opening (sym c.commit_error.ensures ∙ error)
+
+pub returns-clause-fault : goal.returns-clause-fault
+returns-clause-fault g c place is =
+    let t = c.args.table.now in
+    let w = c.in-Ok.written in
+    let written = c.in-Ok.ensures.ok in
+    let e = c.in-Err-publish_version.e in
+    let v = c.args.at.version + 1 in
+    let error : c.commit_error.result ≡ commit_error_by e w.route.draft t v = c.commit_error.ensures ∙ ap (λ (x : Parts). commit_error_by e w.route.draft x v) written.table_is in
+    let told : c.commit_error.result ≡ Attempt (attempts.Read (StoreFault place)) = cc (is) in
+    publish_fault (Gives (g.I.Ids.given c.args.ids.now) (g.I.Ids.given c.next-id.new.self)) t w.route.draft w.route.target c.next-id.result c.next-id.ensures written.draft e v place c.args.log.now.left.items c.publish.new.log.left.items c.in-Err-publish_version.ensures.left (sym error ∙ told)
+
+pub returns-clause-renamed : goal.returns-clause-renamed
+returns-clause-renamed g c version is =
+    let t = c.args.table.now in
+    let Drawn = Gives (g.I.Ids.given c.args.ids.now) (g.I.Ids.given c.next-id.new.self) in
+    let w = c.in-Ok.written in
+    let written = c.in-Ok.ensures.ok in
+    let e = c.in-Err-publish_version.e in
+    let v = c.args.at.version + 1 in
+    let p0 = g.S.Store.past c.args.store.now in
+    let p1 = g.S.Store.past c.publish.new.store in
+    let had = c.args.log.now.left.items in
+    let has = c.publish.new.log.left.items in
+    let error : c.commit_error.result ≡ commit_error_by e w.route.draft t v = c.commit_error.ensures ∙ ap (λ (x : Parts). commit_error_by e w.route.draft x v) written.table_is in
+    let told : c.commit_error.result ≡ CommitUnknown version = cc (is) in
+    let u = unknown_publish Drawn t w.route.draft w.route.target c.next-id.result c.next-id.ensures written.draft e v version (sym error ∙ told) in
+    since_turned p0 p1 (TellsRename w.route.draft w.route.target had has) (IsUnknownEnd Drawn t version had has) (c.in-Err-publish_version.ensures.renamed (ap (λ (x : PublishErr). Err x) u.0))
+    (λ old new r. unknown_end Drawn t w.route.draft w.route.target c.next-id.result c.next-id.ensures written.draft v version u.1 written.target had has old new r)

@@ -4,18 +4,19 @@ use Rattle.ice_store.specs.Since.{Since}
 use Rattle.ice_store.specs.declared.history.Past.{Past}
 use Rattle.ice_store.specs.declared.store.Moved.{Moved}
 use Rattle.ice_store.proofs.SinceLaws.{since_then, since_turned}
-use Rattle.table_publish.specs.Stages.{IsBased, IsPublished, Exactly, Begun, Anything}
-use Rattle.table_publish.specs.Leaves.{MoveLeaves, DropLeaves, Undropped, RoseBy}
+use Rattle.table_publish.specs.Stages.{IsBased, IsPublished, Exactly, Anything}
+use Rattle.table_publish.specs.Leaves.{MoveLeaves, DropLeaves, Unmoved, Undropped, RoseBy}
 use Rattle.table_publish.proofs.CallLaws as calls
 use Rattle.table_publish.proofs.CallLaws.{RR, K0, KD, KT, KL}
 use Rattle.table_publish.proofs.PublishLaws as laws
 use Rattle.table_publish.proofs.Narrow.{work}
 use Rattle.ice_store.specs.Calls.{Rose}
 use Rattle.ice_store.specs.declared.store.Moved.TheVariants.{Done}
-use Rattle.table_publish.specs.Left.{IsNaming, Notes}
+use Rattle.table_publish.specs.Left.{IsNaming, Notes, TellsRename}
 use Rattle.table_publish.specs.Logs.{LeftBy, left_by_move, left_by_drop, fault_from, unknown_from}
-use Rattle.table_publish.proofs.LeftLaws.{notes_by, rose_later, moved_places, moved_is, dropped_places, dropped_is, published_left, unmoved_left, dropped_left, undropped_left}
+use Rattle.table_publish.proofs.LeftLaws.{notes_by, rose_later, moved_places, moved_is, dropped_places, dropped_is, published_left, unmoved_left, dropped_left, undropped_left, tells_rename}
 use Rattle.table_publish.specs.declared.publish.PublishErr.{PublishErr}
+use Rattle.table_publish.specs.declared.publish.PublishErr.TheVariants.{Unknown}
 use Rattle.table_publish.proofs.publish.finish.Goals as goal
 
 pub returns-in-Err-clause-told : goal.returns-in-Err-clause-told
@@ -25,7 +26,7 @@ returns-in-Err-clause-told g c =
     let p1 = g.S.Store.past c.move_draft.new.store in
     let e = c.in-Err.e in
     subst (λ (r : PublishErr). Since p0 p1 (laws.Finish x (Err r))) (sym c.unknown_of.ensures)
-    (since_turned p0 p1 (RR x (Begun (laws.move_plan x)) Anything) (laws.Finish x (Err (unknown_from e.cause))) c.in-Err.ensures.told (λ old new run. laws.unmoved x e.cause old new run))
+    (since_turned p0 p1 (RR x (Unmoved x.draft x.target e.call e.cause) Anything) (laws.Finish x (Err (unknown_from e.cause))) c.in-Err.ensures.told (λ old new run. laws.unmoved x e.call e.cause old new run))
 
 pub returns-in-Err-clause-left : goal.returns-in-Err-clause-left
 returns-in-Err-clause-left g c =
@@ -84,8 +85,8 @@ returns-in-Err-clause-noted g c =
     let had = c.args.log.now.left.items in
     let has = c.note_move.new.log.left.items in
     let is : has ≡ had ++ moved_places e.call e.cause x.draft x.target = c.note_move.ensures.left ∙ ap (λ (p : Parts). left_by_move e.call e.cause p c.args.target had) c.requires.names.0 ∙ ap (λ (p : Parts). left_by_move e.call e.cause x.draft p had) c.requires.names.1 ∙ moved_is e.call e.cause x.draft x.target had in
-    since_turned p0 p1 (RR x (Begun (laws.move_plan x)) Anything) (Notes (Rose before now) (IsNaming x.draft x.target) 0 (x.draft ∷ []) had has) c.in-Err.ensures.told
-    (λ old new run. notes_by x before now (Begun (laws.move_plan x)) Anything 0 (x.draft ∷ []) had has (moved_places e.call e.cause x.draft x.target) is (unmoved_left x.draft x.target x.bytes before now e.call e.cause c.in-Err.ensures.cause) old new run)
+    since_turned p0 p1 (RR x (Unmoved x.draft x.target e.call e.cause) Anything) (Notes (Rose before now) (IsNaming x.draft x.target) 0 (x.draft ∷ []) had has) c.in-Err.ensures.told
+    (λ old new run. notes_by x before now (Unmoved x.draft x.target e.call e.cause) Anything 0 (x.draft ∷ []) had has (moved_places e.call e.cause x.draft x.target) is (unmoved_left x.draft x.target x.bytes before now e.call e.cause c.in-Err.ensures.cause) old new run)
 
 pub returns-in-Ok-clause-noted : goal.returns-in-Ok-clause-noted
 returns-in-Ok-clause-noted g c =
@@ -123,3 +124,16 @@ returns-in-Err-drop_draft-clause-noted g c =
     (subst (λ m. Since p1 p2 (DropLeaves x.number x.Good x.Reached (g.M.Manners.allows m) x.draft x.target (Err e))) c.move_draft.ensures.manners c.in-Err-drop_draft.ensures.told)
     (λ old mid new a b. notes_by x before now (Undropped x.draft e.call e.cause) Anything 0 (x.draft ∷ []) had has (dropped_places e.call x.draft) is (undropped_left x.draft x.target x.bytes before now e.call e.cause rose) old new
     (laws.lost_then x (Undropped x.draft e.call e.cause) Anything old mid new a b))
+
+pub returns-in-Err-clause-renamed : goal.returns-in-Err-clause-renamed
+returns-in-Err-clause-renamed g c is =
+    let x = work g.F.Format.reads c.args.route.now.table (g.M.Manners.allows (g.S.Store.manners c.args.store.now)) c.requires.mannered c.args.route.now.draft c.args.route.now.base c.args.route.now.target c.args.route.now.text c.args.bytes.now c.requires.aim in
+    let p0 = g.S.Store.past c.args.store.now in
+    let p1 = g.S.Store.past c.move_draft.new.store in
+    let e = c.in-Err.e in
+    let had = c.args.log.now.left.items in
+    let has = c.note_move.new.log.left.items in
+    let told : c.unknown_of.result ≡ Unknown = cc (is) in
+    let unknown : unknown_from e.cause ≡ Unknown = sym c.unknown_of.ensures ∙ told in
+    let left : has ≡ left_by_move e.call e.cause x.draft x.target had = c.note_move.ensures.left ∙ ap (λ (p : Parts). left_by_move e.call e.cause p c.args.target had) c.requires.names.0 ∙ ap (λ (p : Parts). left_by_move e.call e.cause x.draft p had) c.requires.names.1 in
+    since_turned p0 p1 (RR x (Unmoved x.draft x.target e.call e.cause) Anything) (TellsRename x.draft x.target had has) c.in-Err.ensures.told (λ old new run. tells_rename x e.call e.cause had has old new unknown left run)

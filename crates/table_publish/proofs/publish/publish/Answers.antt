@@ -11,9 +11,9 @@ use Rattle.table_publish.proofs.CallLaws.{RR, K0, KD, KT, KL}
 use Rattle.table_publish.proofs.PublishLaws as laws
 use Rattle.table_publish.proofs.Narrow.{work}
 use Rattle.table_publish.specs.declared.publish.PublishErr.TheVariants.{NoMemory}
-use Rattle.table_publish.specs.Left.{IsNaming, Notes, committed_count}
+use Rattle.table_publish.specs.Left.{IsNaming, Notes, TellsRename, committed_count}
 use Rattle.table_publish.specs.declared.publish.Log.{Log}
-use Rattle.table_publish.proofs.LeftLaws.{notes_by, notes_behind, none_left}
+use Rattle.table_publish.proofs.LeftLaws.{notes_by, notes_behind, none_left, rename_behind}
 use Rattle.table_publish.proofs.publish.publish.Goals.{then-is_err-via-then-is_err, then-is_err-via-else-is_err+then-is_err-2}
 use Rattle.table_publish.proofs.publish.publish.Goals as goal
 
@@ -83,3 +83,15 @@ returns-in-Ok-clause-noted g c =
     since_then p0 p1 p2 (RR x (Exactly (draft_plan x.draft x.bytes)) (KD x AtRest true x.bytes)) (Finished had) (Notes (Rose before now) (IsNaming x.draft x.target) count [] had has) c.in-Ok.ensures.told
     (subst (λ (h : List Parts). Since p1 p2 (Finished h)) c.reserve-else-is_err.ensures.items c.finish.ensures.noted)
     (λ old mid new a b. notes_behind x before between now c.in-Ok.ensures.later (KD x AtRest true x.bytes) count had has old mid new a b)
+
+pub returns-in-Ok-clause-renamed : goal.returns-in-Ok-clause-renamed
+returns-in-Ok-clause-renamed g c is =
+    let x = work g.F.Format.reads c.args.route.now.table (g.M.Manners.allows (g.S.Store.manners c.args.store.now)) c.requires.mannered c.args.route.now.draft c.args.route.now.base c.args.route.now.target c.args.route.now.text c.args.bytes.now c.requires.aim in
+    let p0 = g.S.Store.past c.args.store.now in
+    let p1 = g.S.Store.past c.write_draft.new.store in
+    let p2 = g.S.Store.past c.finish.new.store in
+    let had = c.args.log.now.left.items in
+    let has = c.finish.new.log.left.items in
+    since_then p0 p1 p2 (RR x (Exactly (draft_plan x.draft x.bytes)) (KD x AtRest true x.bytes)) (TellsRename x.draft x.target had has) (TellsRename x.draft x.target had has) c.in-Ok.ensures.told
+    (subst (λ (h : List Parts). Since p1 p2 (TellsRename x.draft x.target h has)) c.reserve-else-is_err.ensures.items (c.finish.ensures.renamed is))
+    (λ old mid new run t. rename_behind x.draft x.target run.events had has old mid new run.is t)

@@ -18,6 +18,7 @@ use Rattle.upkeep_top.specs.declared.task.Work.{Work}
 use Rattle.upkeep_top.specs.declared.task.Work.TheVariants.{List as Listing}
 use Rattle.upkeep_top.proofs.ListLaws.{since_still, did_list, did_refuse, did_stop, did_not_open}
 use Rattle.upkeep_top.proofs.LeftLaws.{nothing_noted}
+use Rattle.upkeep_top.proofs.FailLaws.{no_failure, opening_failure}
 use Rattle.upkeep_top.proofs.VersionLaws.{not_done_is, no_output_is}
 use Rattle.upkeep_top.proofs.statement.run_list.Goals as goal
 
@@ -52,6 +53,7 @@ returns-in-Ok g c =
         committed = refl;
         left = refl;
         noted = nothing_noted p0 p1 still _ _ c.args.log.now.left.items;
+        fails = no_failure w.table Drawn c.args.log.now.left.items c.args.log.now.left.items p0 p1 (Ok (Same at.version)) refl;
         faults = tt;
         later = e.later;
         output_faults = c.list_on.ensures.cause;
@@ -68,6 +70,7 @@ returns-in-Ok g c =
         committed = refl;
         left = refl;
         noted = nothing_noted p0 p1 still _ _ c.args.log.now.left.items;
+        fails = no_failure w.table Drawn c.args.log.now.left.items c.args.log.now.left.items p0 p1 (Err (Attempt (Refused (UnknownSnapshot lacks.0)))) refl;
         faults = tt;
         later = e.later;
         output_faults = c.list_on.ensures.cause;
@@ -84,6 +87,7 @@ returns-in-Ok g c =
         committed = refl;
         left = inl refl;
         noted = nothing_noted p0 p1 still _ _ c.args.log.now.left.items;
+        fails = no_failure w.table Drawn c.args.log.now.left.items c.args.log.now.left.items p0 p1 (Err (Attempt (Read Memory))) refl;
         faults = tt;
         later = e.later;
         output_faults = c.list_on.ensures.cause;
@@ -122,6 +126,7 @@ returns-in-Err g c =
       committed = refl;
       left = refl;
       noted = nothing_noted p0 p1 still _ _ c.args.log.now.left.items;
+      fails = opening_failure w.table Drawn c.args.log.now.left.items c.args.log.now.left.items p0 p1 c.in-Err.e e.place;
       faults = e.cause;
       later = e.later;
       output_faults = λ d. absurd (no_output_is w.word (Open c.in-Err.e) status c.status_of_open.ensures d);

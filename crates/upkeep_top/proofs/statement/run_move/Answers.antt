@@ -20,6 +20,7 @@ use Rattle.upkeep_top.specs.declared.task.Work.TheVariants.{Move}
 use Rattle.upkeep_top.proofs.EndLaws.{did_at}
 use Rattle.upkeep_top.proofs.ListLaws.{did_nothing}
 use Rattle.upkeep_top.proofs.LeftLaws.{nothing_noted}
+use Rattle.upkeep_top.proofs.FailLaws.{no_failure, move_fault}
 use Rattle.upkeep_top.proofs.VersionLaws.{not_done_is, no_output_is}
 use Rattle.upkeep_top.proofs.statement.run_move.Goals as goal
 
@@ -43,6 +44,7 @@ returns-in_default g c =
       committed = refl;
       left = inl refl;
       noted = nothing_noted (g.S.Store.past c.args.store.now) (g.S.Store.past c.args.store.now) refl _ _ c.args.log.now.left.items;
+      fails = no_failure w.table Drawn c.args.log.now.left.items c.args.log.now.left.items (g.S.Store.past c.args.store.now) (g.S.Store.past c.args.store.now) end refl;
       faults = tt;
       later = omega arith;
       output_faults = λ e. absurd (cc (e));
@@ -80,6 +82,7 @@ returns-in-Ok-commit_change g c =
       committed = e.committed;
       left = e.left;
       noted = e.noted;
+      fails = no_failure w.table Drawn c.args.log.now.left.items c.commit.new.log.left.items p0 p1 end refl;
       faults = e.cause;
       later = e.later;
       output_faults = c.put_report.ensures.cause;
@@ -115,6 +118,7 @@ returns g c =
       committed = e.committed;
       left = e.left;
       noted = e.noted;
+      fails = record { opening = e.opening; fault = λ place is. move_fault r.goal Drawn w.table place c.args.log.now.left.items c.commit.new.log.left.items (e.fault place is); renamed = e.renamed };
       faults = e.cause;
       later = e.later;
       output_faults = λ d. absurd (no_output_is w.word c.in-Err.e status c.status_of_error.ensures d);

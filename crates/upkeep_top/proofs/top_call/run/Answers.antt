@@ -54,6 +54,12 @@ returns-clause-store_fault g c = λ place is. laws.store_rose _ _ _ _ c.run_word
 pub returns-clause-unknown : goal.returns-clause-unknown
 returns-clause-unknown g c = λ version is. laws.store_rose _ _ _ _ c.run_words-outcome.ensures.told (inr (version, is))
 
+pub returns-clause-fault_place : goal.returns-clause-fault_place
+returns-clause-fault_place g c = λ place is. laws.fault_at _ _ _ _ c.run_words-outcome.ensures.told refl place is
+
+pub returns-clause-renamed : goal.returns-clause-renamed
+returns-clause-renamed g c = λ version is. laws.renamed _ _ _ _ c.run_words-outcome.ensures.told refl version is
+
 pub returns-clause-out_fault : goal.returns-clause-out_fault
 returns-clause-out_fault g c = λ is. laws.output_rose _ _ _ _ c.run_words-outcome.ensures.told is
 

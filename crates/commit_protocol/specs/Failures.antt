@@ -1,0 +1,24 @@
+-- What a failed call of a commit names, and what it leaves in the log.
+use Rattle.std.specs.Prelude.{◌≡◌, ◌⊎◌, ℕ, List, [], ◌∷◌, ◌++◌}
+use Rattle.serde_json.specs.Data.{Data}
+use Rattle.ice_store.specs.Places.{Parts}
+use Rattle.ice_store.specs.declared.history.Past.{Past}
+use Rattle.ice_store.specs.declared.faults.ReadErr.TheVariants.{StoreFault}
+use Rattle.table_publish.specs.Left.{TellsRename}
+use Rattle.commit_protocol.specs.Written.{draft_at, version_at}
+use Rattle.commit_protocol.specs.declared.errors.AttemptErr.{AttemptErr}
+use Rattle.commit_protocol.specs.declared.errors.AttemptErr.TheVariants.{Read}
+
+-- the fault is told at the table, whose names were to be synced, or at the new metadata file, which then stands in the log
+abbrev pub IsFaultOf : (ℕ → Type 0) → Parts → Parts → List Parts → List Parts → Type 0
+IsFaultOf Drawn table place had has = (place ≡ table) ⊎ ((id : ℕ) × Drawn id × (place ≡ draft_at table id) × (has ≡ had ++ place ∷ []))
+
+-- or the change refused a base so
+abbrev pub TellsFault : (Data → AttemptErr → Type 0) → (ℕ → Type 0) → Parts → Parts → List Parts → List Parts → Type 0
+TellsFault refuses Drawn table place had has = ((tree : Data) × refuses tree (Read (StoreFault place))) ⊎ IsFaultOf Drawn table place had has
+
+-- a commit whose end is unknown: the rename to the version took place, and the new metadata file's name stands in the log; or both names stand there
+pub record IsUnknownEnd (Drawn : ℕ → Type 0) (table : Parts) (version : ℕ) (had has : List Parts) (old new : Past) : Type 0 where
+  pub id : ℕ
+  pub drawn : Drawn id
+  pub rename : TellsRename (draft_at table id) (version_at table version) had has old new
