@@ -188,7 +188,7 @@ pub(crate) fn value(
 #[cycle(decode)]
 #[inline(never)]
 #[tactic(auto, unfolding(crate::specs::Reading::read))]
-fn record(
+pub(crate) fn record(
     alloc: Global,
     fields: &[Field],
     bytes: &[u8],

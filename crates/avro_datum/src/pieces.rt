@@ -16,6 +16,7 @@ pub(crate) struct Head {
     pub size: Option<i64>,
 }
 
+#[inline(always)]
 #[tactic(auto, unfolding(avro_container::specs::Reading::number_at))]
 pub(crate) fn number(bytes: &[u8], at: usize) -> Result<(i64, usize), SkipErr>
     requires { at ≤ length bytes.now }
