@@ -10,15 +10,29 @@ ghost use Rattle.avro_datum.specs.Spelling.{most_items};
 ghost use Rattle.avro_datum.specs.Reading.{Ends, told, causes, entry_at, read, read_all};
 
 use crate::fault::{DatumCause, SkipErr};
-use crate::pieces::{blob, block_head, int, is_sized, number, part, position, text_of, truth};
+use crate::pieces::{
+    blob, block_head, int, is_sized, number, part, position, short_position, short_text, text_of,
+    truth,
+};
 use avro_schema::{Field, Schema};
 
 /// Items of one array or map.
 const MOST_ITEMS: u64 = 16777216;
 
 #[inline(always)]
-#[tactic(auto, unfolding(avro_container::specs::Reading::string_at))]
 fn past_string(bytes: &[u8], at: usize, fault: &mut SkipErr) -> Option<usize>
+    requires { at ≤ length bytes.now }
+    ensures { Ends bytes.now (told result fault.new) (string_at causes (drop at bytes.now)) }
+{
+    match short_text(bytes, at) {
+        Some((_found, end)) => Some(end),
+        None => past_any_string(bytes, at, fault),
+    }
+}
+
+#[inline(never)]
+#[tactic(auto, unfolding(avro_container::specs::Reading::string_at))]
+fn past_any_string(bytes: &[u8], at: usize, fault: &mut SkipErr) -> Option<usize>
     requires { at ≤ length bytes.now }
     ensures { Ends bytes.now (told result fault.new) (string_at causes (drop at bytes.now)) }
 {
@@ -101,14 +115,13 @@ fn past_bytes(bytes: &[u8], at: usize, fault: &mut SkipErr) -> Option<usize>
     }
 }
 
-#[inline(never)]
+#[inline(always)]
 #[tactic(auto, unfolding(crate::specs::Reading::read))]
 fn past_text(bytes: &[u8], at: usize, fault: &mut SkipErr) -> Option<usize>
     requires { at ≤ length bytes.now }
     ensures { Ends bytes.now (told result fault.new) (read of_string (drop at bytes.now)) }
 {
-    let end = past_string(bytes, at, fault)?;
-    Some(end)
+    past_string(bytes, at, fault)
 }
 
 #[inline(never)]
@@ -204,8 +217,7 @@ fn past_record(fields: &[Field], bytes: &[u8], at: usize, fault: &mut SkipErr) -
     requires { at ≤ length bytes.now }
     ensures { Ends bytes.now (told result fault.new) (read (of_fields (forms_of (map field_form fields.now))) (drop at bytes.now)) }
 {
-    let end = past_all(fields, bytes, at, fault)?;
-    Some(end)
+    past_all(fields, bytes, at, fault)
 }
 
 #[cycle(skip)]
@@ -215,8 +227,7 @@ fn past_array(item: &Schema, bytes: &[u8], at: usize, fault: &mut SkipErr) -> Op
     requires { at ≤ length bytes.now }
     ensures { Ends bytes.now (told result fault.new) (read (of_array (form_of item.now)) (drop at bytes.now)) }
 {
-    let end = past_blocks(item, bytes, at, fault)?;
-    Some(end)
+    past_blocks(item, bytes, at, fault)
 }
 
 #[cycle(skip)]
@@ -226,8 +237,7 @@ fn past_map(inner: &Schema, bytes: &[u8], at: usize, fault: &mut SkipErr) -> Opt
     requires { at ≤ length bytes.now }
     ensures { Ends bytes.now (told result fault.new) (read (of_pairs (form_of inner.now)) (drop at bytes.now)) }
 {
-    let end = past_pair_blocks(inner, bytes, at, fault)?;
-    Some(end)
+    past_pair_blocks(inner, bytes, at, fault)
 }
 
 #[cycle(skip)]
@@ -269,6 +279,24 @@ fn past_field(schema: &Schema, bytes: &[u8], at: usize, fault: &mut SkipErr) -> 
 #[inline(always)]
 #[tactic(auto, using(crate::proofs::Schemas::count_branches, crate::proofs::Schemas::nth_branch), unfolding(crate::specs::Reading::read))]
 fn past_branch(branches: &[Schema], bytes: &[u8], at: usize, fault: &mut SkipErr) -> Option<usize>
+    requires { at ≤ length bytes.now }
+    ensures { Ends bytes.now (told result fault.new) (read (union (forms_of (map form_of branches.now))) (drop at bytes.now)) }
+{
+    let Some(branch) = short_position(branches.len(), bytes, at) else {
+        return past_any_branch(branches, bytes, at, fault);
+    };
+    past(&branches[branch as usize], bytes, at + 1, fault)
+}
+
+#[cycle(skip)]
+#[inline(never)]
+#[tactic(auto, using(crate::proofs::Schemas::count_branches, crate::proofs::Schemas::nth_branch), unfolding(crate::specs::Reading::read))]
+fn past_any_branch(
+    branches: &[Schema],
+    bytes: &[u8],
+    at: usize,
+    fault: &mut SkipErr,
+) -> Option<usize>
     requires { at ≤ length bytes.now }
     ensures { Ends bytes.now (told result fault.new) (read (union (forms_of (map form_of branches.now))) (drop at bytes.now)) }
 {
