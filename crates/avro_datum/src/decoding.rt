@@ -9,7 +9,7 @@ ghost use Rattle.avro_datum.specs.Reading.{Makes, Adds, causes, entry_at, listed
 use crate::datum::{Datum, DatumList, PairList};
 use crate::fault::{DatumCause, DatumErr};
 use crate::pieces::{
-    blob, block_head, int, is_sized, number, part, position, short_text, text_of, truth,
+    blob, block_head, int, is_sized, number, part, position, short_blob, text_of, truth,
 };
 use avro_schema::{Bytes, Field, Schema, Text};
 use sqlite_items::{Boxed, Items};
@@ -19,12 +19,19 @@ use std::alloc::{AllocError, Global};
 const MOST_ITEMS: u64 = 16777216;
 
 #[inline(always)]
+#[tactic(auto, unfolding(avro_container::specs::Reading::string_at))]
 fn string(alloc: Global, bytes: &[u8], at: usize) -> Result<(Text, usize), DatumErr>
     requires { at ≤ length bytes.now }
     ensures { Makes bytes.now result (string_at causes (drop at bytes.now)) }
 {
-    let Some((text, end)) = short_text(bytes, at) else {
+    let Some((found, end)) = short_blob(bytes, at) else {
         return any_string(alloc, bytes, at);
+    };
+    let Some(text) = text_of(found) else {
+        return Err(DatumErr::Bad {
+            at,
+            cause: DatumCause::BadUtf8,
+        });
     };
     Ok((Text::new(String::from_str(alloc, text)?), end))
 }
@@ -169,8 +176,24 @@ fn enum_value(count: usize, bytes: &[u8], at: usize) -> Result<(Datum, usize), D
 
 /// A value.
 #[cycle(decode)]
-#[tactic(auto, unfolding(crate::specs::Reading::read))]
+#[inline(never)]
 pub(crate) fn value(
+    alloc: Global,
+    schema: &Schema,
+    bytes: &[u8],
+    at: usize,
+) -> Result<(Datum, usize), DatumErr>
+    requires { at ≤ length bytes.now }
+    ensures { Makes bytes.now result (read (form_of schema.now) (drop at bytes.now)) }
+{
+    value_here(alloc, schema, bytes, at)
+}
+
+/// The same in its place.
+#[cycle(decode)]
+#[inline(always)]
+#[tactic(auto, unfolding(crate::specs::Reading::read))]
+fn value_here(
     alloc: Global,
     schema: &Schema,
     bytes: &[u8],
@@ -327,7 +350,7 @@ fn add_other(
     ensures count { OnOk result (vec_len to.new ≡ vec_len to.old + 1) }
     ensures capacity { vec_capacity to.new ≡ vec_capacity to.old }
 {
-    let (item, end) = value(alloc, schema, bytes, at)?;
+    let (item, end) = value_here(alloc, schema, bytes, at)?;
     to.push_reserved(item);
     Ok(end)
 }

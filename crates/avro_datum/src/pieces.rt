@@ -2,7 +2,7 @@
 
 ghost use Rattle.std.specs.Prelude.{◌≡◌, ◌≤◌, ◌<◌, ◌+◌, pos, length, drop, Ok, IfOk, IfSome, MatchOption, true, false};
 ghost use Rattle.std.specs.Str.{is_utf8};
-ghost use Rattle.avro_container.specs.Reading.{number_at, length_at, bytes_at, blob_at, string_at, head_at, is_size};
+ghost use Rattle.avro_container.specs.Reading.{number_at, length_at, bytes_at, blob_at, head_at, is_size};
 ghost use Rattle.avro_datum.specs.Reading.{Gives, GivesBy, Lends, causes, int_at, position_at, bool_at};
 ghost use Rattle.avro_datum.specs.declared.pieces.Head.{Head};
 ghost use Rattle.avro_datum.specs.declared.fault.DatumCause.{DatumCause};
@@ -153,7 +153,8 @@ fn any_position(
     Ok((n as u32, end))
 }
 
-// Most lengths and positions have one byte. What follows reads those alone: `None` is any other, and any fault.
+// Most positions have one byte, and most lengths at most two. What follows reads those alone: `None` is any other, and any
+// fault.
 
 #[inline(always)]
 #[tactic(auto, using(crate::proofs::Shorts::one_byte))]
@@ -170,20 +171,44 @@ fn short_count(bytes: &[u8], at: usize) -> Option<usize>
     None
 }
 
-/// A text in ASCII, and where it ends.
+/// A length of up to two bytes, and where it ends.
 #[inline(always)]
-pub(crate) fn short_text(bytes: &[u8], at: usize) -> Option<(&str, usize)>
-    ensures { IfSome result (λ x. (string_at causes (drop at bytes.now) ≡ Ok (x.0.now, drop x.1 bytes.now)) × (x.1 ≤ length bytes.now)) }
+fn short_length(bytes: &[u8], at: usize) -> Option<(usize, usize)>
+    ensures { IfSome result (λ x. (length_at causes (drop at bytes.now) ≡ Ok (x.0, drop x.1 bytes.now)) × (x.1 ≤ length bytes.now)) }
 {
-    let len = short_count(bytes, at)?;
-    let (found, end) = match part(bytes, at + 1, len) {
-        Ok(found) => found,
-        Err(_) => return None,
-    };
-    if !found.is_ascii() {
+    if at >= bytes.len() {
         return None;
     }
-    Some((unsafe { str::from_utf8_unchecked(found) }, end))
+    let first = bytes[at];
+    if first % 2 != 0 {
+        return None;
+    }
+    let low = usize::from(first / 2);
+    if first < 128 {
+        return Some((low, at + 1));
+    }
+    let next = at + 1;
+    if next >= bytes.len() {
+        return None;
+    }
+    let second = bytes[next];
+    if second >= 128 {
+        return None;
+    }
+    Some((low - 64 + 64 * usize::from(second), next + 1))
+}
+
+/// Such a length, and so many bytes.
+#[inline(always)]
+#[tactic(auto, unfolding(avro_container::specs::Reading::blob_at))]
+pub(crate) fn short_blob(bytes: &[u8], at: usize) -> Option<(&[u8], usize)>
+    ensures { IfSome result (λ x. (blob_at causes (drop at bytes.now) ≡ Ok (x.0.now, drop x.1 bytes.now)) × (x.1 ≤ length bytes.now)) }
+{
+    let (len, from) = short_length(bytes, at)?;
+    let Ok(found) = part(bytes, from, len) else {
+        return None;
+    };
+    Some(found)
 }
 
 /// A position below `count`, and one byte of it.

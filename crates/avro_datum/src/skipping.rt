@@ -11,7 +11,7 @@ ghost use Rattle.avro_datum.specs.Reading.{Ends, told, causes, entry_at, read, r
 
 use crate::fault::{DatumCause, SkipErr};
 use crate::pieces::{
-    blob, block_head, int, is_sized, number, part, position, short_position, short_text, text_of,
+    blob, block_head, int, is_sized, number, part, position, short_blob, short_position, text_of,
     truth,
 };
 use avro_schema::{Field, Schema};
@@ -20,14 +20,22 @@ use avro_schema::{Field, Schema};
 const MOST_ITEMS: u64 = 16777216;
 
 #[inline(always)]
+#[tactic(auto, unfolding(avro_container::specs::Reading::string_at))]
 fn past_string(bytes: &[u8], at: usize, fault: &mut SkipErr) -> Option<usize>
     requires { at ≤ length bytes.now }
     ensures { Ends bytes.now (told result fault.new) (string_at causes (drop at bytes.now)) }
 {
-    match short_text(bytes, at) {
-        Some((_found, end)) => Some(end),
-        None => past_any_string(bytes, at, fault),
+    let Some((found, end)) = short_blob(bytes, at) else {
+        return past_any_string(bytes, at, fault);
+    };
+    if text_of(found).is_none() {
+        *fault = SkipErr {
+            at,
+            cause: DatumCause::BadUtf8,
+        };
+        return None;
     }
+    Some(end)
 }
 
 #[inline(never)]
@@ -43,14 +51,14 @@ fn past_any_string(bytes: &[u8], at: usize, fault: &mut SkipErr) -> Option<usize
             return None;
         }
     };
-    if text_of(found).is_none() {
-        *fault = SkipErr {
-            at,
-            cause: DatumCause::BadUtf8,
-        };
-        return None;
+    if text_of(found).is_some() {
+        return Some(end);
     }
-    Some(end)
+    *fault = SkipErr {
+        at,
+        cause: DatumCause::BadUtf8,
+    };
+    None
 }
 
 // The kinds that hold no values of their own. Each is a function apart, as in `decoding`.

@@ -1,4 +1,4 @@
-use Rattle.std.proofs.Common.{◌≡◌, ◌++◌, ◌∷◌, [], sym, ap, ◌∙◌, arith}
+use Rattle.std.proofs.Common.{sym, arith}
 use Rattle.avro_container.proofs.LongWritten.{two_written, three_written}
 use Rattle.avro_container.proofs.long.write_unsigned.Goals as goal
 
