@@ -1,11 +1,9 @@
--- Lengths and positions of one byte.
-use Rattle.std.proofs.Common.{◌≡◌, ℕ, pos, ◌/◌, ◌%◌, ◌<◌, ◌≤◌, ◌+◌, ◌-◌, ◌*◌, ◌^◌, List, ◌∷◌, length, drop, get_or, add-one, drop-cons, Ok, Err, refl, ap, ◌∙◌, arith, lt-ltb, eq-eqb, true, if◌then◌else◌}
-use Rattle.std.specs.Str.{is_utf8}
+-- Short lengths and positions.
+use Rattle.std.proofs.Common.{◌≡◌, ℕ, pos, ◌/◌, ◌%◌, ◌<◌, ◌≤◌, ◌+◌, ◌-◌, ◌*◌, ◌^◌, List, ◌∷◌, length, drop, get_or, add-one, drop-cons, Ok, refl, ap, ◌∙◌, arith, lt-ltb, eq-eqb}
 use Rattle.avro_container.specs.LongReading.{long_at, with_sign}
-use Rattle.avro_container.specs.Reading.{◌>>=◌, as_read, number_at, natural, length_at, bytes_at, blob_at, string_at}
+use Rattle.avro_container.specs.Reading.{◌>>=◌, as_read, number_at, natural, length_at}
 use Rattle.avro_container.proofs.LongGroups.{one_group, two_groups}
 use Rattle.avro_datum.specs.declared.fault.DatumCause.{DatumCause}
-use Rattle.avro_datum.specs.declared.fault.DatumCause.TheVariants.{BadUtf8}
 use Rattle.avro_datum.specs.Reading.{causes, position, position_at}
 
 pub front_at : (bs : List ℕ) (i : ℕ) → i < length bs → drop i bs ≡ get_or bs i 0 ∷ drop (i + 1) bs

@@ -290,7 +290,7 @@ fn add(
 fn add_long(bytes: &[u8], at: usize, to: &mut Vec<Datum>) -> Result<usize, DatumErr>
     requires within { at ≤ length bytes.now }
     requires room { vec_len to.old < vec_capacity to.old }
-    ensures value { Adds bytes.now to.old.items to.new.items result (listed (read (of_long) (drop at bytes.now))) }
+    ensures value { Adds bytes.now to.old.items to.new.items result (listed (read of_long (drop at bytes.now))) }
     ensures count { OnOk result (vec_len to.new ≡ vec_len to.old + 1) }
     ensures capacity { vec_capacity to.new ≡ vec_capacity to.old }
 {
@@ -304,7 +304,7 @@ fn add_long(bytes: &[u8], at: usize, to: &mut Vec<Datum>) -> Result<usize, Datum
 fn add_text(alloc: Global, bytes: &[u8], at: usize, to: &mut Vec<Datum>) -> Result<usize, DatumErr>
     requires within { at ≤ length bytes.now }
     requires room { vec_len to.old < vec_capacity to.old }
-    ensures value { Adds bytes.now to.old.items to.new.items result (listed (read (of_string) (drop at bytes.now))) }
+    ensures value { Adds bytes.now to.old.items to.new.items result (listed (read of_string (drop at bytes.now))) }
     ensures count { OnOk result (vec_len to.new ≡ vec_len to.old + 1) }
     ensures capacity { vec_capacity to.new ≡ vec_capacity to.old }
 {
@@ -413,7 +413,7 @@ fn boxed(
 #[tactic(auto, unfolding(crate::specs::Reading::read))]
 fn boxed_long(alloc: Global, bytes: &[u8], at: usize) -> Result<(Boxed<Datum>, usize), DatumErr>
     requires { at ≤ length bytes.now }
-    ensures { Makes bytes.now result (read (of_long) (drop at bytes.now)) }
+    ensures { Makes bytes.now result (read of_long (drop at bytes.now)) }
 {
     let (n, end) = number(bytes, at)?;
     Ok((Boxed::new(alloc, Datum::Long(n))?, end))
@@ -423,7 +423,7 @@ fn boxed_long(alloc: Global, bytes: &[u8], at: usize) -> Result<(Boxed<Datum>, u
 #[tactic(auto, unfolding(crate::specs::Reading::read))]
 fn boxed_text(alloc: Global, bytes: &[u8], at: usize) -> Result<(Boxed<Datum>, usize), DatumErr>
     requires { at ≤ length bytes.now }
-    ensures { Makes bytes.now result (read (of_string) (drop at bytes.now)) }
+    ensures { Makes bytes.now result (read of_string (drop at bytes.now)) }
 {
     let (text, end) = string(alloc, bytes, at)?;
     Ok((Boxed::new(alloc, Datum::Str(text))?, end))
