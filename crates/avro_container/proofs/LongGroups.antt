@@ -94,3 +94,15 @@ one_group b xs bs is low = rw (is, lt-ltb b 128 low, lt-ltb b (2 ^ 64) (omega ar
 pub no_byte : (xs : List ℕ) → xs ≡ [] → unsigned_at xs ≡ Err Short
 unfolding unsigned_at groups_at
 no_byte xs is = rw is refl
+
+-- numbers of two and of three bytes
+pub two_groups : (b c : ℕ) (xs ys bs : List ℕ) → xs ≡ b ∷ ys → ys ≡ c ∷ bs → 128 ≤ b → b < 256 → c < 128 → unsigned_at xs ≡ Ok (b - 128 + 128 * c, bs)
+unfolding unsigned_at groups_at
+two_groups b c xs ys bs is next high byte low = rw (is, next, le-ltb b 128 high, lt-ltb c 128 low, lt-ltb (b - 128 + 128 * c) (2 ^ 64) (omega arith)) refl
+
+pub three_groups : (b c d : ℕ) (xs ys zs bs : List ℕ) → xs ≡ b ∷ ys → ys ≡ c ∷ zs → zs ≡ d ∷ bs → 128 ≤ b → b < 256 → 128 ≤ c → c < 256 → d < 128
+    → unsigned_at xs ≡ Ok (b - 128 + 128 * (c - 128) + 16384 * d, bs)
+unfolding unsigned_at groups_at
+three_groups b c d xs ys zs bs is next last high byte more second low =
+    let value : b - 128 + 128 * (c - 128 + 128 * d) ≡ b - 128 + 128 * (c - 128) + 16384 * d = omega arith in
+    rw (is, next, last, le-ltb b 128 high, le-ltb c 128 more, lt-ltb d 128 low, value, lt-ltb (b - 128 + 128 * (c - 128) + 16384 * d) (2 ^ 64) (omega arith)) refl

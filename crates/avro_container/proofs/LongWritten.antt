@@ -26,6 +26,17 @@ still_fits c n h =
 pub last_fits : (c n : ℕ) → c ≤ 9 → 9 ≤ c → n * 2 ^ (7 * c) < 2 ^ 64 → n < 128
 last_fits c n h k f = let nine : c ≡ 9 = omega arith in let g : n * 2 ^ (7 * 9) < 2 ^ 64 = rw nine at f in omega (arith, g)
 
+-- numbers of two and of three bytes
+pub two_written : (front : List ℕ) (k n : ℕ) → 128 ≤ n → n / 128 < 128 → front ++ groups_of (suc (suc k)) n ≡ (front ++ (n % 128 + 128) ∷ []) ++ (n / 128) ∷ []
+unfolding groups_of
+two_written front k n high low = rw (le-ltb n 128 high, lt-ltb (n / 128) 128 low) (sym (append_assoc front ((n % 128 + 128) ∷ []) ((n / 128) ∷ [])))
+
+pub three_written : (front : List ℕ) (k n : ℕ) → 128 ≤ n → 128 ≤ n / 128 → n / 128 / 128 < 128
+    → front ++ groups_of (suc (suc (suc k))) n ≡ ((front ++ (n % 128 + 128) ∷ []) ++ (n / 128 % 128 + 128) ∷ []) ++ (n / 128 / 128) ∷ []
+unfolding groups_of
+three_written front k n high more low =
+    rw (le-ltb n 128 high) (sym (append_assoc front ((n % 128 + 128) ∷ []) (groups_of (suc (suc k)) (n / 128))) ∙ two_written (front ++ (n % 128 + 128) ∷ []) k (n / 128) more low)
+
 -- The written spelling is one.
 
 groups_sound : (k n : ℕ) → 0 < k → n < 2 ^ (7 * k) → IsGroups (groups_of k n) n × (length (groups_of k n) ≤ k)

@@ -30,7 +30,7 @@ fn signed(n: u64) -> i64
     }
 }
 
-// Apart from the numbers of one byte, which are most and are read where they are wanted.
+// Apart from the numbers of up to three bytes, which are most and are read where they are wanted.
 #[inline(never)]
 fn read_groups(bytes: &[u8], at: usize) -> Result<(u64, usize), NumErr>
     ensures { GivesNumber bytes.now result (unsigned_at (drop at bytes.now)) }
@@ -65,11 +65,27 @@ fn read_groups(bytes: &[u8], at: usize) -> Result<(u64, usize), NumErr>
 fn read_unsigned(bytes: &[u8], at: usize) -> Result<(u64, usize), NumErr>
     ensures { GivesNumber bytes.now result (unsigned_at (drop at bytes.now)) }
 {
-    let Some(byte) = byte_at(bytes, at) else {
+    let Some(first) = byte_at(bytes, at) else {
         return Err(NumErr::Short);
     };
-    if byte < 128 {
-        return Ok((u64::from(byte), at + 1));
+    if first < 128 {
+        return Ok((u64::from(first), at + 1));
+    }
+    let next = at + 1;
+    let Some(second) = byte_at(bytes, next) else {
+        return read_groups(bytes, at);
+    };
+    let low = u64::from(first) - 128;
+    if second < 128 {
+        return Ok((low + 128 * u64::from(second), next + 1));
+    }
+    let last = next + 1;
+    let Some(third) = byte_at(bytes, last) else {
+        return read_groups(bytes, at);
+    };
+    if third < 128 {
+        let middle = u64::from(second) - 128;
+        return Ok((low + 128 * middle + 16384 * u64::from(third), last + 1));
     }
     read_groups(bytes, at)
 }
@@ -123,18 +139,30 @@ fn write_groups(n: u64, to: &mut Vec<u8>) -> Result<(), AllocError>
     Ok(())
 }
 
-// The numbers of one byte are written where they are wanted, as they are read.
+// The numbers of up to three bytes are written where they are wanted, as they are read.
 #[inline(always)]
 #[tactic(auto, using(crate::proofs::LongWritten::last_written))]
 fn write_unsigned(n: u64, to: &mut Vec<u8>) -> Result<(), AllocError>
     ensures ok { OnOk result (to.new.items ≡ to.old.items ++ groups_of 10 n) }
     ensures grows { Grows to.old.items to.new.items }
 {
+    if n >= 2097152 {
+        return write_groups(n, to);
+    }
+    to.reserve(3)?;
     if n < 128 {
-        to.push(n as u8)?;
+        to.push_reserved(n as u8);
         return Ok(());
     }
-    write_groups(n, to)
+    to.push_reserved((n % 128 + 128) as u8);
+    let rest = n / 128;
+    if rest < 128 {
+        to.push_reserved(rest as u8);
+        return Ok(());
+    }
+    to.push_reserved((rest % 128 + 128) as u8);
+    to.push_reserved((rest / 128) as u8);
+    Ok(())
 }
 
 /// Writes the number's shortest spelling at the end.

@@ -5,3 +5,4 @@ pub mod Found
 pub mod Again
 pub mod Values
 pub mod Public
+pub mod Shorts

@@ -1,5 +1,5 @@
 -- A value read from left to right, with the first fault that is met.
-use Rattle.std.specs.Prelude.{◌≡◌, ℕ, zero, suc, ℤ, pos, negsuc, ◌-◌, ◌≤◌, List, [], ◌∷◌, length, drop, Result, Ok, Err, Bool, true, false, nat_lt, ◌&&◌, ◌^◌, if◌then◌else◌}
+use Rattle.std.specs.Prelude.{◌≡◌, ℕ, zero, suc, ℤ, pos, negsuc, ◌-◌, ◌≤◌, List, [], ◌∷◌, length, drop, Result, Ok, Err, Option, Some, None, Bool, true, false, nat_lt, ◌&&◌, ◌^◌, if◌then◌else◌}
 use Rattle.std.specs.Borrow.{Bor}
 use Rattle.avro_schema.specs.Form.{Form, null, boolean, int, long, float4, float8, bytes as blob, string, fixed, choice, array, pairs, fields, union, Forms, no_forms, form}
 use Rattle.avro_container.specs.Reading.{Causes, Read, ◌>>=◌, number_at, bytes_at, blob_at, string_at, with_front, ahead, blocks_at, end_of}
@@ -101,6 +101,11 @@ OnFault (Err (errors.Bad at cause)) P = P
 abbrev pub Ends : {A : Type 0} → List ℕ → Result ℕ SkipErr → Read DatumCause A → Type 0
 Ends bytes (Ok end) read = (end_of read ≡ Ok (drop end bytes)) × (end ≤ length bytes)
 Ends bytes (Err e) read = (end_of read ≡ Err (e.cause, length bytes - e.at)) × (e.at ≤ length bytes)
+
+-- A function's answer, where its fault is put aside.
+abbrev pub told : {A : Type 0} → Option A → SkipErr → Result A SkipErr
+told (Some x) fault = Ok x
+told None fault = Err fault
 
 -- The same as `Makes`, where no memory is taken.
 abbrev pub Gives : {A : Type 0} → List ℕ → Result (A × ℕ) SkipErr → Read DatumCause A → Type 0

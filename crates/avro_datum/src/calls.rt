@@ -8,9 +8,9 @@ ghost use Rattle.avro_datum.specs.Writing.{IsOf, written};
 ghost use Rattle.avro_datum.specs.declared.datum.Datum.{Datum};
 
 use crate::datum::Datum;
-use crate::decoding::value;
+use crate::decoding::{record, value};
 use crate::encoding::put;
-use crate::fault::{DatumErr, SkipErr};
+use crate::fault::{DatumCause, DatumErr, SkipErr};
 use crate::skipping::past;
 use avro_schema::Schema;
 use std::alloc::{AllocError, Global};
@@ -25,6 +25,7 @@ fn within(bytes: &[u8], at: usize) -> usize
     if at > bytes.len() { bytes.len() } else { at }
 }
 
+// A row, which most values are that are read here, is slow to move, and so doesn't pass through `value`.
 #[inline(always)]
 fn value_from(
     alloc: Global,
@@ -34,7 +35,11 @@ fn value_from(
 ) -> Result<(Datum, usize), DatumErr>
     ensures { Makes bytes.now result (read (form_of schema.now) (drop at bytes.now)) }
 {
-    value(alloc, schema, bytes, within(bytes, at))
+    let from = within(bytes, at);
+    match schema {
+        Schema::Fields { fields, .. } => record(alloc, fields.as_slice(), bytes, from),
+        _ => value(alloc, schema, bytes, from),
+    }
 }
 
 /// The value that begins at `at`, and where it ends. An `at` past the end reads as at the end.
@@ -58,7 +63,14 @@ pub fn decode(
 fn past_from(schema: &Schema, bytes: &[u8], at: usize) -> Result<usize, SkipErr>
     ensures { Ends bytes.now result (read (form_of schema.now) (drop at bytes.now)) }
 {
-    past(schema, bytes, within(bytes, at))
+    let mut fault = SkipErr {
+        at,
+        cause: DatumCause::Short,
+    };
+    match past(schema, bytes, within(bytes, at), &mut fault) {
+        Some(end) => Ok(end),
+        None => Err(fault),
+    }
 }
 
 /// Where the value ends that begins at `at`. It ends where `decode` ends, and refuses as `decode` does.

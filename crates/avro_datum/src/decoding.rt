@@ -8,7 +8,9 @@ ghost use Rattle.avro_datum.specs.Reading.{Makes, Adds, causes, entry_at, listed
 
 use crate::datum::{Datum, DatumList, PairList};
 use crate::fault::{DatumCause, DatumErr};
-use crate::pieces::{blob, block_head, int, is_sized, number, part, position, text_of, truth};
+use crate::pieces::{
+    blob, block_head, int, is_sized, number, part, position, short_blob, text_of, truth,
+};
 use avro_schema::{Bytes, Field, Schema, Text};
 use sqlite_items::{Boxed, Items};
 use std::alloc::{AllocError, Global};
@@ -19,6 +21,24 @@ const MOST_ITEMS: u64 = 16777216;
 #[inline(always)]
 #[tactic(auto, unfolding(avro_container::specs::Reading::string_at))]
 fn string(alloc: Global, bytes: &[u8], at: usize) -> Result<(Text, usize), DatumErr>
+    requires { at ≤ length bytes.now }
+    ensures { Makes bytes.now result (string_at causes (drop at bytes.now)) }
+{
+    let Some((found, end)) = short_blob(bytes, at) else {
+        return any_string(alloc, bytes, at);
+    };
+    let Some(text) = text_of(found) else {
+        return Err(DatumErr::Bad {
+            at,
+            cause: DatumCause::BadUtf8,
+        });
+    };
+    Ok((Text::new(String::from_str(alloc, text)?), end))
+}
+
+#[inline(never)]
+#[tactic(auto, unfolding(avro_container::specs::Reading::string_at))]
+fn any_string(alloc: Global, bytes: &[u8], at: usize) -> Result<(Text, usize), DatumErr>
     requires { at ≤ length bytes.now }
     ensures { Makes bytes.now result (string_at causes (drop at bytes.now)) }
 {
@@ -156,8 +176,24 @@ fn enum_value(count: usize, bytes: &[u8], at: usize) -> Result<(Datum, usize), D
 
 /// A value.
 #[cycle(decode)]
-#[tactic(auto, unfolding(crate::specs::Reading::read))]
+#[inline(never)]
 pub(crate) fn value(
+    alloc: Global,
+    schema: &Schema,
+    bytes: &[u8],
+    at: usize,
+) -> Result<(Datum, usize), DatumErr>
+    requires { at ≤ length bytes.now }
+    ensures { Makes bytes.now result (read (form_of schema.now) (drop at bytes.now)) }
+{
+    value_here(alloc, schema, bytes, at)
+}
+
+/// The same in its place.
+#[cycle(decode)]
+#[inline(always)]
+#[tactic(auto, unfolding(crate::specs::Reading::read))]
+fn value_here(
     alloc: Global,
     schema: &Schema,
     bytes: &[u8],
@@ -188,7 +224,7 @@ pub(crate) fn value(
 #[cycle(decode)]
 #[inline(never)]
 #[tactic(auto, unfolding(crate::specs::Reading::read))]
-fn record(
+pub(crate) fn record(
     alloc: Global,
     fields: &[Field],
     bytes: &[u8],
@@ -223,7 +259,8 @@ fn all(
 
 /// A value, put at the end of a list that has room for it.
 ///
-/// The kinds that rows are mostly made of are made in the place where they stay: a value is slow to move.
+/// The kinds that rows are mostly made of are made in the place where they stay: a value is slow to move. Each is a function
+/// of its own here too, though in its place, so that a kind pays for its own variables alone.
 #[cycle(decode)]
 #[inline(always)]
 #[tactic(auto, unfolding(crate::specs::Reading::read))]
@@ -241,27 +278,81 @@ fn add(
     ensures capacity { vec_capacity to.new ≡ vec_capacity to.old }
 {
     match schema {
-        Schema::Long(_) => {
-            let (n, end) = number(bytes, at)?;
-            to.push_reserved(Datum::Long(n));
-            Ok(end)
-        }
-        Schema::Str(_) => {
-            let (text, end) = string(alloc, bytes, at)?;
-            to.push_reserved(Datum::Str(text));
-            Ok(end)
-        }
-        Schema::Union { branches } => {
-            let (item, end) = one(alloc, branches.as_slice(), bytes, at)?;
-            to.push_reserved(item);
-            Ok(end)
-        }
-        _ => {
-            let (item, end) = value(alloc, schema, bytes, at)?;
-            to.push_reserved(item);
-            Ok(end)
-        }
+        Schema::Long(_) => add_long(bytes, at, to),
+        Schema::Str(_) => add_text(alloc, bytes, at, to),
+        Schema::Union { branches } => add_branch(alloc, branches.as_slice(), bytes, at, to),
+        _ => add_other(alloc, schema, bytes, at, to),
     }
+}
+
+#[inline(always)]
+#[tactic(auto, unfolding(crate::specs::Reading::read))]
+fn add_long(bytes: &[u8], at: usize, to: &mut Vec<Datum>) -> Result<usize, DatumErr>
+    requires within { at ≤ length bytes.now }
+    requires room { vec_len to.old < vec_capacity to.old }
+    ensures value { Adds bytes.now to.old.items to.new.items result (listed (read of_long (drop at bytes.now))) }
+    ensures count { OnOk result (vec_len to.new ≡ vec_len to.old + 1) }
+    ensures capacity { vec_capacity to.new ≡ vec_capacity to.old }
+{
+    let (n, end) = number(bytes, at)?;
+    to.push_reserved(Datum::Long(n));
+    Ok(end)
+}
+
+#[inline(always)]
+#[tactic(auto, unfolding(crate::specs::Reading::read))]
+fn add_text(alloc: Global, bytes: &[u8], at: usize, to: &mut Vec<Datum>) -> Result<usize, DatumErr>
+    requires within { at ≤ length bytes.now }
+    requires room { vec_len to.old < vec_capacity to.old }
+    ensures value { Adds bytes.now to.old.items to.new.items result (listed (read of_string (drop at bytes.now))) }
+    ensures count { OnOk result (vec_len to.new ≡ vec_len to.old + 1) }
+    ensures capacity { vec_capacity to.new ≡ vec_capacity to.old }
+{
+    let (text, end) = string(alloc, bytes, at)?;
+    to.push_reserved(Datum::Str(text));
+    Ok(end)
+}
+
+#[cycle(decode)]
+#[inline(always)]
+#[tactic(auto, unfolding(crate::specs::Reading::read))]
+fn add_branch(
+    alloc: Global,
+    branches: &[Schema],
+    bytes: &[u8],
+    at: usize,
+    to: &mut Vec<Datum>,
+) -> Result<usize, DatumErr>
+    requires within { at ≤ length bytes.now }
+    requires room { vec_len to.old < vec_capacity to.old }
+    ensures value { Adds bytes.now to.old.items to.new.items result (listed (read (union (forms_of (map form_of branches.now))) (drop at bytes.now))) }
+    ensures count { OnOk result (vec_len to.new ≡ vec_len to.old + 1) }
+    ensures capacity { vec_capacity to.new ≡ vec_capacity to.old }
+{
+    let (item, end) = one(alloc, branches, bytes, at)?;
+    to.push_reserved(item);
+    Ok(end)
+}
+
+#[cycle(decode)]
+#[inline(always)]
+#[tactic(auto, unfolding(crate::specs::Reading::read))]
+fn add_other(
+    alloc: Global,
+    schema: &Schema,
+    bytes: &[u8],
+    at: usize,
+    to: &mut Vec<Datum>,
+) -> Result<usize, DatumErr>
+    requires within { at ≤ length bytes.now }
+    requires room { vec_len to.old < vec_capacity to.old }
+    ensures value { Adds bytes.now to.old.items to.new.items result (listed (read (form_of schema.now) (drop at bytes.now))) }
+    ensures count { OnOk result (vec_len to.new ≡ vec_len to.old + 1) }
+    ensures capacity { vec_capacity to.new ≡ vec_capacity to.old }
+{
+    let (item, end) = value_here(alloc, schema, bytes, at)?;
+    to.push_reserved(item);
+    Ok(end)
 }
 
 /// A branch of a union.
@@ -312,19 +403,46 @@ fn boxed(
 {
     match schema {
         Schema::Null => Ok((Boxed::new(alloc, Datum::Null)?, at)),
-        Schema::Long(_) => {
-            let (n, end) = number(bytes, at)?;
-            Ok((Boxed::new(alloc, Datum::Long(n))?, end))
-        }
-        Schema::Str(_) => {
-            let (text, end) = string(alloc, bytes, at)?;
-            Ok((Boxed::new(alloc, Datum::Str(text))?, end))
-        }
-        _ => {
-            let (inner, end) = value(alloc, schema, bytes, at)?;
-            Ok((Boxed::new(alloc, inner)?, end))
-        }
+        Schema::Long(_) => boxed_long(alloc, bytes, at),
+        Schema::Str(_) => boxed_text(alloc, bytes, at),
+        _ => boxed_other(alloc, schema, bytes, at),
     }
+}
+
+#[inline(always)]
+#[tactic(auto, unfolding(crate::specs::Reading::read))]
+fn boxed_long(alloc: Global, bytes: &[u8], at: usize) -> Result<(Boxed<Datum>, usize), DatumErr>
+    requires { at ≤ length bytes.now }
+    ensures { Makes bytes.now result (read of_long (drop at bytes.now)) }
+{
+    let (n, end) = number(bytes, at)?;
+    Ok((Boxed::new(alloc, Datum::Long(n))?, end))
+}
+
+#[inline(always)]
+#[tactic(auto, unfolding(crate::specs::Reading::read))]
+fn boxed_text(alloc: Global, bytes: &[u8], at: usize) -> Result<(Boxed<Datum>, usize), DatumErr>
+    requires { at ≤ length bytes.now }
+    ensures { Makes bytes.now result (read of_string (drop at bytes.now)) }
+{
+    let (text, end) = string(alloc, bytes, at)?;
+    Ok((Boxed::new(alloc, Datum::Str(text))?, end))
+}
+
+#[cycle(decode)]
+#[inline(never)]
+#[tactic(auto, unfolding(crate::specs::Reading::read))]
+fn boxed_other(
+    alloc: Global,
+    schema: &Schema,
+    bytes: &[u8],
+    at: usize,
+) -> Result<(Boxed<Datum>, usize), DatumErr>
+    requires { at ≤ length bytes.now }
+    ensures { Makes bytes.now result (read (form_of schema.now) (drop at bytes.now)) }
+{
+    let (inner, end) = value(alloc, schema, bytes, at)?;
+    Ok((Boxed::new(alloc, inner)?, end))
 }
 
 /// An array.

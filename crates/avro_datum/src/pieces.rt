@@ -1,10 +1,11 @@
 //! The parts of which values are made, read without taking memory.
 
-ghost use Rattle.std.specs.Prelude.{◌≡◌, ◌≤◌, ◌<◌, length, drop, IfOk, MatchOption, true, false};
+ghost use Rattle.std.specs.Prelude.{◌≡◌, ◌≤◌, ◌<◌, ◌+◌, pos, length, drop, Ok, IfOk, IfSome, MatchOption, true, false};
 ghost use Rattle.std.specs.Str.{is_utf8};
 ghost use Rattle.avro_container.specs.Reading.{number_at, length_at, bytes_at, blob_at, head_at, is_size};
 ghost use Rattle.avro_datum.specs.Reading.{Gives, GivesBy, Lends, causes, int_at, position_at, bool_at};
 ghost use Rattle.avro_datum.specs.declared.pieces.Head.{Head};
+ghost use Rattle.avro_datum.specs.declared.fault.DatumCause.{DatumCause};
 
 use crate::fault::{DatumCause, SkipErr};
 use avro_container::{NumErr, read_long};
@@ -16,6 +17,7 @@ pub(crate) struct Head {
     pub size: Option<i64>,
 }
 
+#[inline(always)]
 #[tactic(auto, unfolding(avro_container::specs::Reading::number_at))]
 pub(crate) fn number(bytes: &[u8], at: usize) -> Result<(i64, usize), SkipErr>
     requires { at ≤ length bytes.now }
@@ -51,6 +53,7 @@ pub(crate) fn int(bytes: &[u8], at: usize) -> Result<(i32, usize), SkipErr>
 }
 
 /// So many bytes.
+#[inline(always)]
 #[tactic(auto, unfolding(avro_container::specs::Reading::bytes_at))]
 pub(crate) fn part(bytes: &[u8], at: usize, n: usize) -> Result<(&[u8], usize), SkipErr>
     requires { at ≤ length bytes.now }
@@ -114,8 +117,26 @@ fn wide_text(bytes: &[u8]) -> Option<&str>
 }
 
 /// A position below `count`; any other is the fault `above`.
-#[tactic(auto, unfolding(crate::specs::Reading::position_at))]
+#[inline(always)]
 pub(crate) fn position(
+    count: usize,
+    bytes: &[u8],
+    at: usize,
+    above: DatumCause,
+) -> Result<(u32, usize), SkipErr>
+    requires { at ≤ length bytes.now }
+    ensures within { IfOk result (λ x. x.0 < count) }
+    ensures value { Gives bytes.now result (position_at above count (drop at bytes.now)) }
+{
+    match short_position(count, bytes, at) {
+        Some(n) => Ok((n, at + 1)),
+        None => any_position(count, bytes, at, above),
+    }
+}
+
+#[inline(never)]
+#[tactic(auto, unfolding(crate::specs::Reading::position_at))]
+fn any_position(
     count: usize,
     bytes: &[u8],
     at: usize,
@@ -130,6 +151,77 @@ pub(crate) fn position(
         return Err(SkipErr { at, cause: above });
     }
     Ok((n as u32, end))
+}
+
+// Most positions have one byte, and most lengths at most two. What follows reads those alone: `None` is any other, and any
+// fault.
+
+#[inline(always)]
+#[tactic(auto, using(crate::proofs::Shorts::one_byte))]
+fn short_count(bytes: &[u8], at: usize) -> Option<usize>
+    ensures number { IfSome result (λ n. number_at causes (drop at bytes.now) ≡ Ok (pos n, drop (at + 1) bytes.now)) }
+    ensures small { IfSome result (λ n. (n < 64) × (at < length bytes.now)) }
+{
+    if at < bytes.len() {
+        let byte = bytes[at];
+        if byte < 128 && byte % 2 == 0 {
+            return Some(usize::from(byte / 2));
+        }
+    }
+    None
+}
+
+/// A length of up to two bytes, and where it ends.
+#[inline(always)]
+fn short_length(bytes: &[u8], at: usize) -> Option<(usize, usize)>
+    ensures { IfSome result (λ x. (length_at causes (drop at bytes.now) ≡ Ok (x.0, drop x.1 bytes.now)) × (x.1 ≤ length bytes.now)) }
+{
+    if at >= bytes.len() {
+        return None;
+    }
+    let first = bytes[at];
+    if first % 2 != 0 {
+        return None;
+    }
+    let low = usize::from(first / 2);
+    if first < 128 {
+        return Some((low, at + 1));
+    }
+    let next = at + 1;
+    if next >= bytes.len() {
+        return None;
+    }
+    let second = bytes[next];
+    if second >= 128 {
+        return None;
+    }
+    Some((low - 64 + 64 * usize::from(second), next + 1))
+}
+
+/// Such a length, and so many bytes.
+#[inline(always)]
+#[tactic(auto, unfolding(avro_container::specs::Reading::blob_at))]
+pub(crate) fn short_blob(bytes: &[u8], at: usize) -> Option<(&[u8], usize)>
+    ensures { IfSome result (λ x. (blob_at causes (drop at bytes.now) ≡ Ok (x.0.now, drop x.1 bytes.now)) × (x.1 ≤ length bytes.now)) }
+{
+    let (len, from) = short_length(bytes, at)?;
+    let Ok(found) = part(bytes, from, len) else {
+        return None;
+    };
+    Some(found)
+}
+
+/// A position below `count`, and one byte of it.
+#[inline(always)]
+pub(crate) fn short_position(count: usize, bytes: &[u8], at: usize) -> Option<u32>
+    ensures within { IfSome result (λ n. (n < count) × (at < length bytes.now)) }
+    ensures value { IfSome result (λ n. (above : DatumCause) → position_at above count (drop at bytes.now) ≡ Ok (n, drop (at + 1) bytes.now)) }
+{
+    let n = short_count(bytes, at)?;
+    if n >= count {
+        return None;
+    }
+    Some(n as u32)
 }
 
 /// One byte, 0 or 1.

@@ -8,13 +8,13 @@ use Rattle.avro_datum.specs.Writing.{IsOf, written, written_nth}
 use Rattle.avro_datum.proofs.Puts.{nth_is_at, nth_within, nth_written_at}
 use Rattle.avro_datum.proofs.encoding.+encode.Goals as goal
 
-pub put_one-put-requires : goal.put_one-put-requires
-put_one-put-requires t c =
+pub put_branch-put-requires : goal.put_branch-put-requires
+put_branch-put-requires t c =
     let here : IsOf (form_of c.index-branches-branch.result) c.args.inner.now = nth_is_at c.args.branches.now c.args.branch c.args.inner.now c.index-branches-branch.result c.index-branches-branch.is c.requires in
     search (rules, sizes, at_most, nth_within)
 
-pub put_one-returns-clause-ok : goal.put_one-returns-clause-ok
-put_one-returns-clause-ok t c =
+pub put_branch-returns-clause-ok : goal.put_branch-returns-clause-ok
+put_branch-returns-clause-ok t c =
     let here : written_nth (forms_of (map form_of c.args.branches.now)) c.args.branch c.args.inner.now ≡ written (form_of c.index-branches-branch.result) c.args.inner.now =
     nth_written_at c.args.branches.now c.args.branch c.args.inner.now c.index-branches-branch.result c.index-branches-branch.is (nth_within c.args.branches.now c.args.branch c.args.inner.now c.requires) in
     on_ok_weaker c.put.result (λ e. e ∙ ap (λ xs. xs ++ written (form_of c.index-branches-branch.result) c.args.inner.now) c.in_ok-put_count.ensures.ok ∙ ap (λ n. c.args.to.now.items ++ written_long (pos n) ++ written (form_of c.index-branches-branch.result) c.args.inner.now) c.from.ensures
