@@ -9,31 +9,31 @@ use Rattle.ice_store.specs.declared.history.Past.{Past}
 use Rattle.ice_store.specs.declared.history.Step.{Step}
 use Rattle.ice_store.specs.declared.history.Step.TheVariants.{Rename, Remove, SyncNames}
 use Rattle.ice_store.specs.declared.faults.ReadErr.TheVariants.{Missing, Damaged, Unsupported, StoreFault, Memory}
-use Rattle.table_history.specs.Tables.{GoodBy}
-use Rattle.table_history.specs.Versions.{number_in}
-use Rattle.table_history.specs.Runs.{Ran}
-use Rattle.table_history.proofs.Running.{ran_then, ran_turned, begins}
-use Rattle.table_history.proofs.Numbering.{numbering}
+use Rattle.commit_history.specs.Tables.{GoodBy}
+use Rattle.commit_history.specs.Versions.{number_in}
+use Rattle.commit_history.specs.Runs.{Ran}
+use Rattle.commit_history.proofs.Running.{ran_then, ran_turned, begins}
+use Rattle.commit_history.proofs.Numbering.{numbering}
 use Rattle.ice_store.specs.Since.{Since}
 use Rattle.table_metadata.specs.Edits.{HasVersionLimit, next_version, kept_versions, version_limit}
 use Rattle.table_metadata.proofs.EditLaws.{stays-next}
 use Rattle.serde_json.specs.Find.{as_str}
 use Rattle.table_metadata.specs.View.{location_of}
-use Rattle.table_history.specs.Mannered.{IsMannered}
-use Rattle.table_publish.proofs.Narrow.{work, narrow_local}
-use Rattle.table_publish.specs.Stages.{Narrow, NoReach, Creating, Aim, Stage, NoFile, IsLost, At as Stands, Exactly, Anything, Partly, Reaching, draft_plan}
-use Rattle.table_publish.specs.Leaves.{PublishLeaves}
-use Rattle.table_publish.specs.declared.steps.Call.TheVariants.{OnFile, OnNames}
-use Rattle.table_publish.specs.declared.publish.PublishErr.{PublishErr}
-use Rattle.table_publish.specs.declared.publish.PublishErr.TheVariants as publishes
-use Rattle.table_publish.proofs.CallLaws as calls
-use Rattle.table_publish.proofs.CallLaws.{Work, RR}
-use Rattle.version_open.specs.Opening.{OpenStage}
+use Rattle.commit_history.specs.Mannered.{IsMannered}
+use Rattle.commit_publish.proofs.Narrow.{work, narrow_local}
+use Rattle.commit_publish.specs.Stages.{Narrow, NoReach, Creating, Aim, Stage, NoFile, IsLost, At as Stands, Exactly, Anything, Partly, Reaching, draft_plan}
+use Rattle.commit_publish.specs.Leaves.{PublishLeaves}
+use Rattle.commit_publish.specs.declared.steps.Call.TheVariants.{OnFile, OnNames}
+use Rattle.commit_publish.specs.declared.publish.PublishErr.{PublishErr}
+use Rattle.commit_publish.specs.declared.publish.PublishErr.TheVariants as publishes
+use Rattle.commit_publish.proofs.CallLaws as calls
+use Rattle.commit_publish.proofs.CallLaws.{Work, RR}
+use Rattle.commit_versions.specs.Opening.{OpenStage}
 use Rattle.commit_protocol.specs.Metadata.{IsTableOf, IsAt}
 use Rattle.commit_protocol.specs.Attempts.{Drafted, RefusedBy, TellsLimit, AttemptLeaves, CommitLeaves}
 use Rattle.commit_protocol.specs.Causes.{CommitRose}
 use Rattle.commit_protocol.specs.Written.{next_tree, IsWritten, IsUnwritten, commit_error_by, PublishedLeaves, CommitLeft, version_at}
-use Rattle.table_publish.specs.Logs.{LeftBy}
+use Rattle.commit_publish.specs.Logs.{LeftBy}
 use Rattle.commit_protocol.specs.declared.opening.At.{At}
 use Rattle.commit_protocol.specs.declared.commit.Written.{Written}
 use Rattle.commit_protocol.specs.declared.errors.AttemptErr.{AttemptErr}

@@ -6,13 +6,13 @@ use Rattle.ice_store.specs.Places.{Parts}
 use Rattle.ice_store.specs.declared.history.Event.{Event}
 use Rattle.ice_store.specs.declared.history.Past.{Past}
 use Rattle.ice_store.specs.declared.faults.ReadErr.TheVariants.{StoreFault}
-use Rattle.table_publish.specs.Left.{TellsRename}
-use Rattle.table_publish.specs.Logs.{LeftBy}
-use Rattle.table_publish.proofs.LeftLaws.{rename_behind}
-use Rattle.table_publish.specs.declared.steps.Call.TheVariants.{OnFile, OnNames}
-use Rattle.table_publish.specs.declared.publish.PublishErr.{PublishErr}
-use Rattle.table_publish.specs.declared.publish.PublishErr.TheVariants as publishes
-use Rattle.version_open.specs.declared.types.OpenErr.{OpenErr}
+use Rattle.commit_publish.specs.Left.{TellsRename}
+use Rattle.commit_publish.specs.Logs.{LeftBy}
+use Rattle.commit_publish.proofs.LeftLaws.{rename_behind}
+use Rattle.commit_publish.specs.declared.steps.Call.TheVariants.{OnFile, OnNames}
+use Rattle.commit_publish.specs.declared.publish.PublishErr.{PublishErr}
+use Rattle.commit_publish.specs.declared.publish.PublishErr.TheVariants as publishes
+use Rattle.commit_versions.specs.declared.types.OpenErr.{OpenErr}
 use Rattle.commit_protocol.specs.Attempts.{TellsLimit}
 use Rattle.commit_protocol.specs.Failures.{IsFaultOf, IsUnknownEnd}
 use Rattle.commit_protocol.specs.Written.{IsUnwritten, commit_error_by, draft_at, version_at}

@@ -6,12 +6,12 @@ use Rattle.ice_store.proofs.HistoryLaws.{later-later}
 use Rattle.ice_store.specs.Places.{Parts}
 use Rattle.ice_store.specs.declared.history.Past.{Past}
 use Rattle.ice_store.specs.declared.history.Step.{Step}
-use Rattle.table_history.specs.Runs.{Ran, ours}
-use Rattle.table_history.specs.Tables.{GoodBy, ReachBy}
-use Rattle.table_history.proofs.Running.{ours-append}
-use Rattle.table_publish.specs.Left.{IsMore, IsNaming, Notes, made_by}
-use Rattle.table_publish.specs.Stages.{Exactly}
-use Rattle.table_publish.proofs.LeftLaws.{more_later}
+use Rattle.commit_history.specs.Runs.{Ran, ours}
+use Rattle.commit_history.specs.Tables.{GoodBy, ReachBy}
+use Rattle.commit_history.proofs.Running.{ours-append}
+use Rattle.commit_publish.specs.Left.{IsMore, IsNaming, Notes, made_by}
+use Rattle.commit_publish.specs.Stages.{Exactly}
+use Rattle.commit_publish.proofs.LeftLaws.{more_later}
 use Rattle.commit_protocol.specs.Written.{IsNamingOf, draft_at, version_at}
 
 more_turned : (Risen : Type 0) (A B : Step → Type 0) (more : List Parts) → ((step : Step) → A step → B step) → IsMore Risen A more → IsMore Risen B more

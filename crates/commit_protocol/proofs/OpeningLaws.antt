@@ -5,15 +5,15 @@ use Rattle.ice_store.specs.Places.{Parts}
 use Rattle.ice_store.specs.declared.history.Past.{Past}
 use Rattle.ice_store.specs.declared.history.Step.{Step}
 use Rattle.ice_store.specs.declared.faults.ReadErr.TheVariants.{Missing, Damaged, Unsupported, StoreFault, Memory}
-use Rattle.table_history.specs.Tables.{GoodBy, ReachBy}
-use Rattle.table_history.specs.Runs.{Ran}
-use Rattle.table_history.proofs.Running.{ran_turned}
-use Rattle.table_publish.specs.Stages.{Exactly, Anything, At as Stands}
-use Rattle.version_open.specs.Opening.{OpenStage, IsOpened, OpenLeaves}
-use Rattle.version_open.specs.Latest.{IsBaseNumber}
-use Rattle.version_open.specs.declared.types.Opened.{Opened}
-use Rattle.version_open.specs.declared.types.OpenErr.{OpenErr}
-use Rattle.version_open.specs.declared.types.OpenErr.TheVariants.{NoTable, LocationDiffers, Read}
+use Rattle.commit_history.specs.Tables.{GoodBy, ReachBy}
+use Rattle.commit_history.specs.Runs.{Ran}
+use Rattle.commit_history.proofs.Running.{ran_turned}
+use Rattle.commit_publish.specs.Stages.{Exactly, Anything, At as Stands}
+use Rattle.commit_versions.specs.Opening.{OpenStage, IsOpened, OpenLeaves}
+use Rattle.commit_versions.specs.Latest.{IsBaseNumber}
+use Rattle.commit_versions.specs.declared.types.Opened.{Opened}
+use Rattle.commit_versions.specs.declared.types.OpenErr.{OpenErr}
+use Rattle.commit_versions.specs.declared.types.OpenErr.TheVariants.{NoTable, LocationDiffers, Read}
 use Rattle.commit_protocol.specs.Metadata.{IsMetadata, ReadsTable, IsAt, OpenErrLeaves, TableLeaves}
 use Rattle.commit_protocol.specs.declared.opening.At.{At}
 

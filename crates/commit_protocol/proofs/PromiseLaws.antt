@@ -10,13 +10,13 @@ use Rattle.ice_store.specs.declared.history.Change.{Change}
 use Rattle.ice_store.specs.declared.history.Event.{Event}
 use Rattle.ice_store.specs.declared.history.Past.{Past}
 use Rattle.ice_store.specs.declared.history.Step.{Step}
-use Rattle.table_history.specs.Versions.{number_in}
-use Rattle.table_history.specs.Commits.{standing, IsLast}
-use Rattle.table_history.specs.Steady.{IsSteady, Each, IsFreshChange}
-use Rattle.table_history.specs.Tables.{Whole, table as table_in}
-use Rattle.table_history.specs.Runs.{Ran, Along, IsSafe}
-use Rattle.table_history.proofs.Following.{standing_disk}
-use Rattle.table_publish.specs.Stages.{Narrow, NoReach, Anything}
+use Rattle.commit_history.specs.Versions.{number_in}
+use Rattle.commit_history.specs.Commits.{standing, IsLast}
+use Rattle.commit_history.specs.Steady.{IsSteady, Each, IsFreshChange}
+use Rattle.commit_history.specs.Tables.{Whole, table as table_in}
+use Rattle.commit_history.specs.Runs.{Ran, Along, IsSafe}
+use Rattle.commit_history.proofs.Following.{standing_disk}
+use Rattle.commit_publish.specs.Stages.{Narrow, NoReach, Anything}
 use Rattle.commit_protocol.specs.Metadata.{IsTableOf}
 use Rattle.commit_protocol.specs.Attempts.{CommitLeaves}
 use Rattle.commit_protocol.specs.Promises.{IsWholeAt, AtEachStop, HasPrefix, HasFiles, StopsHavePrefix, StopsHaveFiles, Succeeds}

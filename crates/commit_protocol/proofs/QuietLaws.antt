@@ -14,10 +14,10 @@ use Rattle.ice_store.specs.declared.history.Who.TheVariants.{Us, Them}
 use Rattle.ice_store.proofs.FileLaws.{find_put_other, find_changed_other, find_without_other}
 use Rattle.ice_store.proofs.HistoryLaws.{replay-later, later-later}
 use Rattle.ice_store.proofs.OthersLaws.{later-nil}
-use Rattle.table_history.specs.Tables.{GoodBy, ReachBy, version}
-use Rattle.table_history.specs.Runs.{Ran, AllProper, IsProperBy, IsProperStep, ours, ours_by}
-use Rattle.table_history.proofs.Agreeing.{named_file, number_of_named}
-use Rattle.table_publish.specs.Stages.{Exactly}
+use Rattle.commit_history.specs.Tables.{GoodBy, ReachBy, version}
+use Rattle.commit_history.specs.Runs.{Ran, AllProper, IsProperBy, IsProperStep, ours, ours_by}
+use Rattle.commit_history.proofs.Agreeing.{named_file, number_of_named}
+use Rattle.commit_publish.specs.Stages.{Exactly}
 use Rattle.commit_protocol.specs.Verdicts.{IsNobody}
 
 -- where a call that adds nothing is told, the past is as it was

@@ -9,16 +9,16 @@ use Rattle.ice_store.specs.declared.history.Step.TheVariants.{Rename, Remove, Sy
 use Rattle.ice_store.specs.declared.faults.What.TheVariants.{Codec, FormatVersion, Transform, SchemaSize, BlockBytes, ItemCount, FileBytes, GroupBytes, NoManifestList, VersionNumber, Sequence}
 use Rattle.ice_store.specs.declared.faults.ReadErr.{ReadErr}
 use Rattle.ice_store.specs.declared.faults.ReadErr.TheVariants.{Missing, Damaged, Unsupported, StoreFault, Memory}
-use Rattle.table_history.specs.Tables.{GoodBy, ReachBy, version}
-use Rattle.table_history.specs.Runs.{Ran}
-use Rattle.table_history.proofs.Running.{ran_then, ran_turned}
-use Rattle.table_publish.specs.Stages.{Anything, Exactly, At as Stands, IsLost, IsBased, IsPublished, Partly, Reaching, draft_plan}
-use Rattle.table_publish.specs.Leaves.{PublishLeaves}
-use Rattle.table_publish.specs.declared.publish.PublishErr.{PublishErr}
-use Rattle.table_publish.specs.declared.publish.PublishErr.TheVariants as publishes
-use Rattle.version_open.specs.Opening.{IsOpened, OpenStage, IsBeyond, IsLong, ReadErrLeaves}
-use Rattle.version_open.specs.declared.types.OpenErr.{OpenErr}
-use Rattle.version_open.specs.declared.types.OpenErr.TheVariants.{NoTable, LocationDiffers, Read}
+use Rattle.commit_history.specs.Tables.{GoodBy, ReachBy, version}
+use Rattle.commit_history.specs.Runs.{Ran}
+use Rattle.commit_history.proofs.Running.{ran_then, ran_turned}
+use Rattle.commit_publish.specs.Stages.{Anything, Exactly, At as Stands, IsLost, IsBased, IsPublished, Partly, Reaching, draft_plan}
+use Rattle.commit_publish.specs.Leaves.{PublishLeaves}
+use Rattle.commit_publish.specs.declared.publish.PublishErr.{PublishErr}
+use Rattle.commit_publish.specs.declared.publish.PublishErr.TheVariants as publishes
+use Rattle.commit_versions.specs.Opening.{IsOpened, OpenStage, IsBeyond, IsLong, ReadErrLeaves}
+use Rattle.commit_versions.specs.declared.types.OpenErr.{OpenErr}
+use Rattle.commit_versions.specs.declared.types.OpenErr.TheVariants.{NoTable, LocationDiffers, Read}
 use Rattle.commit_protocol.specs.Metadata.{OpenErrLeaves}
 use Rattle.commit_protocol.specs.Attempts.{PublishedBy, AttemptLeaves, CommitLeaves, Attempted}
 use Rattle.commit_protocol.specs.declared.opening.At.{At}

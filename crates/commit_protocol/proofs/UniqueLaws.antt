@@ -13,19 +13,19 @@ use Rattle.ice_store.specs.declared.faults.What.TheVariants.{Codec, FormatVersio
 use Rattle.ice_store.specs.declared.faults.Where.{Where}
 use Rattle.ice_store.specs.declared.faults.Where.TheVariants.{Path}
 use Rattle.ice_store.specs.declared.faults.ReadErr.TheVariants.{Missing, Damaged, Unsupported, StoreFault, Memory}
-use Rattle.table_history.specs.Tables.{version}
-use Rattle.table_history.specs.Versions.{number_in}
-use Rattle.table_history.proofs.Numbering.{numbering}
-use Rattle.metadata_faults.specs.declared.fault.Fault.{Fault}
+use Rattle.commit_history.specs.Tables.{version}
+use Rattle.commit_history.specs.Versions.{number_in}
+use Rattle.commit_history.proofs.Numbering.{numbering}
+use Rattle.metadata_form.specs.declared.fault.Fault.{Fault}
 use Rattle.table_metadata.specs.Spelling.{Spells}
 use Rattle.table_metadata.proofs.SpellingLaws.{one_fault, no_fault_of}
 use Rattle.table_metadata.specs.View.{location_of}
 use Rattle.table_metadata.specs.Edits.{HasVersionLimit, next_version}
-use Rattle.version_names.specs.Names.{version_text_of}
-use Rattle.version_open.specs.Opening.{FileIs, IsBeyond, file_limit}
-use Rattle.version_open.specs.declared.types.OpenErr.{OpenErr}
-use Rattle.version_open.specs.declared.types.OpenErr.TheVariants.{NoTable, LocationDiffers, Read}
-use Rattle.version_open.proofs.FirstPlace.{one_first}
+use Rattle.commit_versions.specs.Names.{version_text_of}
+use Rattle.commit_versions.specs.Opening.{FileIs, IsBeyond, file_limit}
+use Rattle.commit_versions.specs.declared.types.OpenErr.{OpenErr}
+use Rattle.commit_versions.specs.declared.types.OpenErr.TheVariants.{NoTable, LocationDiffers, Read}
+use Rattle.commit_versions.proofs.FirstPlace.{one_first}
 use Rattle.commit_protocol.specs.Metadata.{IsMetadata, IsElsewhere, IsDamaged, IsUnsupported, unsupported}
 use Rattle.commit_protocol.specs.Attempts.{IsNextOf, limit_path}
 use Rattle.commit_protocol.specs.Written.{draft_at}

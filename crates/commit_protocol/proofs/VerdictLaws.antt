@@ -12,14 +12,14 @@ use Rattle.ice_store.specs.declared.history.Step.TheVariants.{Append, Seal, Rena
 use Rattle.ice_store.specs.declared.faults.What.{What}
 use Rattle.ice_store.specs.declared.faults.What.TheVariants.{Codec, FormatVersion, Transform, SchemaSize, BlockBytes, ItemCount, FileBytes, GroupBytes, NoManifestList, VersionNumber, Sequence}
 use Rattle.ice_store.specs.declared.faults.ReadErr.TheVariants.{Missing, Damaged, Unsupported, StoreFault, Memory}
-use Rattle.table_history.specs.Tables.{GoodBy, ReachBy, version}
-use Rattle.table_history.specs.Versions.{number_in}
-use Rattle.table_history.specs.Runs.{Ran}
+use Rattle.commit_history.specs.Tables.{GoodBy, ReachBy, version}
+use Rattle.commit_history.specs.Versions.{number_in}
+use Rattle.commit_history.specs.Runs.{Ran}
 use Rattle.table_metadata.specs.Edits.{HasVersionLimit}
-use Rattle.table_publish.specs.Stages.{Exactly, Anything, IsLost, At as Stands, draft_plan}
-use Rattle.version_open.specs.Opening.{OpenStage, FileIs, IsLong, IsBeyond, IsOpened, Listed, ReadErrLeaves, file_limit}
-use Rattle.version_open.specs.declared.types.OpenErr.{OpenErr}
-use Rattle.version_open.specs.declared.types.OpenErr.TheVariants.{NoTable, LocationDiffers, Read}
+use Rattle.commit_publish.specs.Stages.{Exactly, Anything, IsLost, At as Stands, draft_plan}
+use Rattle.commit_versions.specs.Opening.{OpenStage, FileIs, IsLong, IsBeyond, IsOpened, Listed, ReadErrLeaves, file_limit}
+use Rattle.commit_versions.specs.declared.types.OpenErr.{OpenErr}
+use Rattle.commit_versions.specs.declared.types.OpenErr.TheVariants.{NoTable, LocationDiffers, Read}
 use Rattle.commit_protocol.specs.Metadata.{HasOpened, IsAt, TableLeaves, OpenErrLeaves}
 use Rattle.commit_protocol.specs.Attempts.{Drafted, RefusedBy, Attempted, AttemptLeaves, CommitLeaves}
 use Rattle.commit_protocol.specs.Verdicts.{IsNobody, IsLastFile, HasLast, IsOverlong, IsTable, LimitVerdict, OpenVerdict, OnBase, IsUnlimited, IsShort, DrawsUp, CommitVerdict, IsIdle}

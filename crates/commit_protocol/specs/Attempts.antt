@@ -9,22 +9,22 @@ use Rattle.ice_store.specs.declared.faults.What.TheVariants.{FileBytes}
 use Rattle.ice_store.specs.declared.faults.Where.TheVariants.{Path}
 use Rattle.ice_store.specs.declared.faults.ReadErr.{ReadErr}
 use Rattle.ice_store.specs.declared.faults.ReadErr.TheVariants.{Missing, Damaged, Unsupported, StoreFault, Memory}
-use Rattle.table_history.specs.Tables.{GoodBy, ReachBy}
-use Rattle.table_history.specs.Runs.{Ran}
+use Rattle.commit_history.specs.Tables.{GoodBy, ReachBy}
+use Rattle.commit_history.specs.Runs.{Ran}
 use Rattle.table_metadata.specs.Spelling.{Spells}
 use Rattle.table_metadata.specs.View.{location_of}
 use Rattle.table_metadata.specs.Edits.{next_version, HasVersionLimit}
-use Rattle.table_publish.specs.Stages.{Aim, Exactly, Anything}
-use Rattle.version_open.specs.Opening.{file_limit}
-use Rattle.version_names.specs.Names.{version_text_of, version_name, draft_name}
-use Rattle.table_history.specs.Versions.{folder}
+use Rattle.commit_publish.specs.Stages.{Aim, Exactly, Anything}
+use Rattle.commit_versions.specs.Opening.{file_limit}
+use Rattle.commit_versions.specs.Names.{version_text_of, version_name, draft_name}
+use Rattle.commit_history.specs.Versions.{folder}
 use Rattle.serde_json.specs.Written.{compact_text}
-use Rattle.table_publish.specs.Leaves.{PublishLeaves}
-use Rattle.table_publish.specs.declared.steps.Call.{Call}
-use Rattle.table_publish.specs.declared.steps.Call.TheVariants.{OnFile, OnNames}
-use Rattle.table_publish.specs.declared.publish.PublishErr.{PublishErr}
-use Rattle.table_publish.specs.declared.publish.PublishErr.TheVariants as PublishErr_
-use Rattle.table_publish.specs.declared.publish.PublishErr.TheVariants.{NameTaken, Fault, NoMemory}
+use Rattle.commit_publish.specs.Leaves.{PublishLeaves}
+use Rattle.commit_publish.specs.declared.steps.Call.{Call}
+use Rattle.commit_publish.specs.declared.steps.Call.TheVariants.{OnFile, OnNames}
+use Rattle.commit_publish.specs.declared.publish.PublishErr.{PublishErr}
+use Rattle.commit_publish.specs.declared.publish.PublishErr.TheVariants as PublishErr_
+use Rattle.commit_publish.specs.declared.publish.PublishErr.TheVariants.{NameTaken, Fault, NoMemory}
 use Rattle.commit_protocol.specs.Metadata.{IsAt, OpenErrLeaves}
 use Rattle.commit_protocol.specs.declared.opening.At.{At}
 use Rattle.commit_protocol.specs.declared.change.Built.{Built}

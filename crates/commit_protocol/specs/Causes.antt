@@ -1,9 +1,9 @@
 -- The causes of store faults: each comes only where the count of faults rose.
 use Rattle.std.specs.Prelude.{ℕ, Result, Ok, Err}
 use Rattle.ice_store.specs.Calls.{Rose}
-use Rattle.version_open.specs.Opening.{FaultRose}
-use Rattle.version_open.specs.declared.types.OpenErr.{OpenErr}
-use Rattle.version_open.specs.declared.types.OpenErr.TheVariants.{NoTable, LocationDiffers, Read}
+use Rattle.commit_versions.specs.Opening.{FaultRose}
+use Rattle.commit_versions.specs.declared.types.OpenErr.{OpenErr}
+use Rattle.commit_versions.specs.declared.types.OpenErr.TheVariants.{NoTable, LocationDiffers, Read}
 use Rattle.commit_protocol.specs.declared.opening.At.{At}
 use Rattle.commit_protocol.specs.declared.errors.AttemptErr.{AttemptErr}
 use Rattle.commit_protocol.specs.declared.errors.AttemptErr.TheVariants as attempts

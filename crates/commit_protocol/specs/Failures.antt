@@ -4,7 +4,7 @@ use Rattle.serde_json.specs.Data.{Data}
 use Rattle.ice_store.specs.Places.{Parts}
 use Rattle.ice_store.specs.declared.history.Past.{Past}
 use Rattle.ice_store.specs.declared.faults.ReadErr.TheVariants.{StoreFault}
-use Rattle.table_publish.specs.Left.{TellsRename}
+use Rattle.commit_publish.specs.Left.{TellsRename}
 use Rattle.commit_protocol.specs.Written.{draft_at, version_at}
 use Rattle.commit_protocol.specs.declared.errors.AttemptErr.{AttemptErr}
 use Rattle.commit_protocol.specs.declared.errors.AttemptErr.TheVariants.{Read}

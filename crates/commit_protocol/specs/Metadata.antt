@@ -11,16 +11,16 @@ use Rattle.ice_store.specs.declared.faults.Where.{Where}
 use Rattle.ice_store.specs.declared.faults.Where.TheVariants.{Path}
 use Rattle.ice_store.specs.declared.faults.ReadErr.{ReadErr}
 use Rattle.ice_store.specs.declared.faults.ReadErr.TheVariants.{Missing, Damaged, Unsupported, StoreFault, Memory}
-use Rattle.table_history.specs.Tables.{GoodBy, ReachBy}
-use Rattle.metadata_faults.specs.declared.fault.MetaCause.{MetaCause}
-use Rattle.metadata_faults.specs.declared.fault.MetaCause.TheVariants.{NotJson, Fraction, Version, Field, NoManifestList, DoubleId, BrokenRef, BrokenParent}
+use Rattle.commit_history.specs.Tables.{GoodBy, ReachBy}
+use Rattle.metadata_form.specs.declared.fault.MetaCause.{MetaCause}
+use Rattle.metadata_form.specs.declared.fault.MetaCause.TheVariants.{NotJson, Fraction, Version, Field, NoManifestList, DoubleId, BrokenRef, BrokenParent}
 use Rattle.table_metadata.specs.Spelling.{Spells, HasFault}
 use Rattle.table_metadata.specs.View.{location_of}
-use Rattle.version_open.specs.Opening.{IsOpened, OpenLeaves, ReadErrLeaves}
-use Rattle.version_open.specs.Latest.{IsBaseNumber}
-use Rattle.version_open.specs.declared.types.Opened.{Opened}
-use Rattle.version_open.specs.declared.types.OpenErr.{OpenErr}
-use Rattle.version_open.specs.declared.types.OpenErr.TheVariants.{NoTable, LocationDiffers, Read}
+use Rattle.commit_versions.specs.Opening.{IsOpened, OpenLeaves, ReadErrLeaves}
+use Rattle.commit_versions.specs.Latest.{IsBaseNumber}
+use Rattle.commit_versions.specs.declared.types.Opened.{Opened}
+use Rattle.commit_versions.specs.declared.types.OpenErr.{OpenErr}
+use Rattle.commit_versions.specs.declared.types.OpenErr.TheVariants.{NoTable, LocationDiffers, Read}
 use Rattle.commit_protocol.specs.declared.opening.At.{At}
 
 -- the bytes spell this metadata, and its location is the table

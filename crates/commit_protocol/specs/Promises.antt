@@ -6,12 +6,12 @@ use Rattle.ice_store.specs.History.{IsImage, replay, later}
 use Rattle.ice_store.specs.declared.history.Event.{Event}
 use Rattle.ice_store.specs.declared.history.FileRec.{FileRec}
 use Rattle.ice_store.specs.declared.history.Past.{Past}
-use Rattle.table_history.specs.Tables.{Whole, table as table_in}
-use Rattle.table_history.specs.Versions.{number_in}
-use Rattle.table_history.specs.Commits.{IsLast, standing, found}
-use Rattle.table_history.specs.Steady.{IsSteady}
+use Rattle.commit_history.specs.Tables.{Whole, table as table_in}
+use Rattle.commit_history.specs.Versions.{number_in}
+use Rattle.commit_history.specs.Commits.{IsLast, standing, found}
+use Rattle.commit_history.specs.Steady.{IsSteady}
 use Rattle.table_metadata.specs.Spelling.{Spells}
-use Rattle.table_publish.specs.Stages.{Narrow, NoReach, Holds}
+use Rattle.commit_publish.specs.Stages.{Narrow, NoReach, Holds}
 use Rattle.commit_protocol.specs.Attempts.{IsNextOf}
 use Rattle.commit_protocol.specs.Metadata.{IsTableOf}
 use Rattle.commit_protocol.specs.Verdicts.{IsTable}

@@ -13,13 +13,13 @@ use Rattle.ice_store.specs.declared.faults.What.TheVariants.{Codec, FormatVersio
 use Rattle.ice_store.specs.declared.faults.Where.TheVariants.{Path}
 use Rattle.ice_store.specs.declared.faults.ReadErr.{ReadErr}
 use Rattle.ice_store.specs.declared.faults.ReadErr.TheVariants.{Missing, Damaged, Unsupported, StoreFault, Memory}
-use Rattle.table_history.specs.Tables.{version}
-use Rattle.table_history.specs.Versions.{number_in}
+use Rattle.commit_history.specs.Tables.{version}
+use Rattle.commit_history.specs.Versions.{number_in}
 use Rattle.table_metadata.specs.Edits.{HasVersionLimit}
-use Rattle.version_open.specs.Latest.{IsBaseNumber}
-use Rattle.version_open.specs.Opening.{FileIs, IsBeyond, file_limit}
-use Rattle.version_open.specs.declared.types.OpenErr.{OpenErr}
-use Rattle.version_open.specs.declared.types.OpenErr.TheVariants.{NoTable, LocationDiffers, Read}
+use Rattle.commit_versions.specs.Latest.{IsBaseNumber}
+use Rattle.commit_versions.specs.Opening.{FileIs, IsBeyond, file_limit}
+use Rattle.commit_versions.specs.declared.types.OpenErr.{OpenErr}
+use Rattle.commit_versions.specs.declared.types.OpenErr.TheVariants.{NoTable, LocationDiffers, Read}
 use Rattle.commit_protocol.specs.Metadata.{IsMetadata, IsElsewhere, IsDamaged, IsUnsupported}
 use Rattle.commit_protocol.specs.Attempts.{IsNextOf, limit_path}
 use Rattle.commit_protocol.specs.Written.{draft_at}

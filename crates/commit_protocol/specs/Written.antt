@@ -8,17 +8,17 @@ use Rattle.ice_store.specs.declared.history.Past.{Past}
 use Rattle.ice_store.specs.declared.history.Step.{Step}
 use Rattle.ice_store.specs.declared.faults.What.TheVariants.{FileBytes}
 use Rattle.ice_store.specs.declared.faults.ReadErr.TheVariants.{Missing, Damaged, Unsupported, StoreFault, Memory}
-use Rattle.table_history.specs.Tables.{GoodBy, ReachBy}
-use Rattle.table_history.specs.Versions.{number_in, folder}
+use Rattle.commit_history.specs.Tables.{GoodBy, ReachBy}
+use Rattle.commit_history.specs.Versions.{number_in, folder}
 use Rattle.table_metadata.specs.View.{location_of}
 use Rattle.table_metadata.specs.Edits.{next_version}
-use Rattle.table_publish.specs.Stages.{Aim}
-use Rattle.table_publish.specs.Left.{IsNaming}
-use Rattle.table_publish.specs.declared.steps.Call.TheVariants.{OnFile, OnNames}
-use Rattle.table_publish.specs.declared.publish.PublishErr.{PublishErr}
-use Rattle.table_publish.specs.declared.publish.PublishErr.TheVariants as publishes
-use Rattle.version_names.specs.Names.{version_text_of, version_name, draft_name}
-use Rattle.version_open.specs.Opening.{file_limit}
+use Rattle.commit_publish.specs.Stages.{Aim}
+use Rattle.commit_publish.specs.Left.{IsNaming}
+use Rattle.commit_publish.specs.declared.steps.Call.TheVariants.{OnFile, OnNames}
+use Rattle.commit_publish.specs.declared.publish.PublishErr.{PublishErr}
+use Rattle.commit_publish.specs.declared.publish.PublishErr.TheVariants as publishes
+use Rattle.commit_versions.specs.Names.{version_text_of, version_name, draft_name}
+use Rattle.commit_versions.specs.Opening.{file_limit}
 use Rattle.commit_protocol.specs.Metadata.{IsMetadata}
 use Rattle.commit_protocol.specs.Attempts.{AttemptLeaves}
 use Rattle.commit_protocol.specs.declared.opening.At.{At}

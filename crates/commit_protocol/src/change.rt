@@ -4,12 +4,12 @@ ghost use Rattle.ice_store.specs.Others.{WhereTold};
 ghost use Rattle.ice_store.specs.Since.{Since};
 ghost use Rattle.serde_json.specs.Data.{Data as Tree};
 ghost use Rattle.serde_json.specs.View.{view};
-ghost use Rattle.table_history.specs.Mannered.{IsMannered};
-ghost use Rattle.table_history.specs.Runs.{Ran};
-ghost use Rattle.table_history.specs.Versions.{number_in};
-ghost use Rattle.table_publish.specs.Stages.{Narrow, NoReach, Exactly, At as Stands};
-ghost use Rattle.table_publish.specs.Leaves.{Halts};
-ghost use Rattle.version_open.specs.Opening.{OpenStage};
+ghost use Rattle.commit_history.specs.Mannered.{IsMannered};
+ghost use Rattle.commit_history.specs.Runs.{Ran};
+ghost use Rattle.commit_history.specs.Versions.{number_in};
+ghost use Rattle.commit_publish.specs.Stages.{Narrow, NoReach, Exactly, At as Stands};
+ghost use Rattle.commit_publish.specs.Leaves.{Halts};
+ghost use Rattle.commit_versions.specs.Opening.{OpenStage};
 ghost use Rattle.commit_protocol.specs.Metadata.{IsTableOf};
 ghost use Rattle.commit_protocol.specs.Attempts.{MakesOf};
 ghost use Rattle.commit_protocol.specs.Causes.{AttemptRose};
@@ -20,7 +20,7 @@ use crate::opening::At;
 use ice_store::{Ids, Manners, Place, Store};
 use std::alloc::Global;
 use table_metadata::Meta;
-use table_publish::Log;
+use commit_publish::Log;
 
 /// What a change makes of a base.
 #[derive(Drop)]

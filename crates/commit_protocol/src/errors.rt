@@ -2,7 +2,7 @@
 use ice_store::{Place, ReadErr, Text};
 use std::alloc::AllocError;
 use thiserror::Error;
-use version_open::OpenErr;
+use commit_versions::OpenErr;
 
 /// What stands against a file that was to be replaced.
 #[derive(Debug, Drop)]

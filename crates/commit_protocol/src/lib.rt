@@ -18,6 +18,6 @@ pub use change::{Built, Change};
 pub use commit::commit as commit_change;
 pub use errors::{AttemptErr, CommitErr, Committed, Other, Refusal};
 pub use opening::{At, Metadata, open_table};
-pub use table_publish::Log;
+pub use commit_publish::Log;
 pub use verdict::{one_commit, one_opening};
-pub use version_open::OpenErr;
+pub use commit_versions::OpenErr;

@@ -3,13 +3,13 @@ ghost use Rattle.std.specs.Prelude.{◌≡◌, ◌≤◌, IfOk, IfErr};
 ghost use Rattle.ice_store.specs.Others.{WhereTold};
 ghost use Rattle.ice_store.specs.Since.{Since};
 ghost use Rattle.serde_json.specs.View.{view};
-ghost use Rattle.table_history.specs.Mannered.{IsMannered};
-ghost use Rattle.table_history.specs.Versions.{number_in};
+ghost use Rattle.commit_history.specs.Mannered.{IsMannered};
+ghost use Rattle.commit_history.specs.Versions.{number_in};
 ghost use Rattle.table_metadata.specs.Spelling.{Spells, HasFault};
-ghost use Rattle.table_publish.specs.Stages.{Narrow, NoReach, Creating, At as Stands};
-ghost use Rattle.table_publish.specs.Leaves.{Halts};
-ghost use Rattle.version_open.specs.Latest.{IsBaseNumber};
-ghost use Rattle.version_open.specs.Opening.{OpenFaultAt};
+ghost use Rattle.commit_publish.specs.Stages.{Narrow, NoReach, Creating, At as Stands};
+ghost use Rattle.commit_publish.specs.Leaves.{Halts};
+ghost use Rattle.commit_versions.specs.Latest.{IsBaseNumber};
+ghost use Rattle.commit_versions.specs.Opening.{OpenFaultAt};
 ghost use Rattle.commit_protocol.specs.Metadata.{IsTableOf, IsMetadata, ReadsTable, SaysElsewhere, TableLeaves, unsupported};
 ghost use Rattle.commit_protocol.specs.Causes.{TableRose};
 ghost use Rattle.commit_protocol.specs.Verdicts.{IsNobody, OpenVerdict, IsExactOpening};
@@ -18,8 +18,8 @@ ghost use Rattle.ice_store.specs.History.{replay};
 use ice_store::{Bytes, Manners, Place, PlaceErr, ReadErr, Store, Text, What, Where};
 use std::alloc::Global;
 use table_metadata::{Meta, MetaCause, MetaErr, read_meta};
-use table_publish::Format;
-use version_open::{OpenErr, Opened, open_version};
+use commit_publish::Format;
+use commit_versions::{OpenErr, Opened, open_version};
 
 /// Table metadata as JSON: the bytes of a version file.
 #[derive(Debug, Clone, Copy)]

@@ -5,7 +5,7 @@ use crate::{
 };
 use commit_protocol::{CommitErr, OpenErr, Other, Refusal};
 use ice_store::{Items, Place, ReadErr, Text, TextList, What, Where};
-use memory_store::MemSink;
+use store_memory::MemSink;
 use std::alloc::Global;
 use std::test::Fail;
 

@@ -12,17 +12,17 @@ use Rattle.serde_json.specs.Data.{Data, null, boolean, number, string, array, ob
 use Rattle.serde_json.specs.Find.{get, get_member, of_integer, as_i64, as_number, as_integer, as_object}
 use Rattle.serde_json.specs.Written.{has_float}
 use Rattle.serde_json.specs.View.{items_of}
-use Rattle.json_edits.specs.Fields.{signed, items_in, items_at, members_in, members_at, signed_at, unsigned as whole}
-use Rattle.json_edits.specs.Edits.{set, object_at, add, add_within, last}
-use Rattle.json_edits.proofs.Laws.{IsTame, get-set, get-set_other, get-add_other, get-add_within, get-add_within_other, get-members, members-set, members-object_at, tame-member, tame-object, tame-none, tame-set, tame-integer, tame-text, tame-unsigned, tame-get, tame-object_at, tame-add, tame-add_within}
-use Rattle.metadata_faults.specs.declared.form.Form.TheVariants.{SnapshotId, Long, Moment, RefType, Text}
-use Rattle.metadata_faults.specs.declared.fields.Need.TheVariants.{Required, Optional}
-use Rattle.metadata_faults.specs.declared.key.Key.TheVariants as Key
-use Rattle.metadata_faults.specs.declared.rules.Rule.TheVariants as rule
-use Rattle.metadata_faults.specs.Path.{in_member, in_item, itself_unless}
-use Rattle.metadata_faults.specs.Form.{misfit, unless_minus_one, is_natural_in, is_ref_type, is_branch_text, items_fault, array_fault, members_fault, object_fault}
-use Rattle.metadata_faults.specs.Fields.{field, field_fault, fields_fault, record_fault, found_fault, rule_fault, rules_fault, metadata_rules, snapshot_fields, snapshot_log_fields, metadata_log_fields, ref_fields}
-use Rattle.metadata_faults.specs.Fault.{unless_2, list_fault}
+use Rattle.metadata_json.specs.Fields.{signed, items_in, items_at, members_in, members_at, signed_at, unsigned as whole}
+use Rattle.metadata_json.specs.Edits.{set, object_at, add, add_within, last}
+use Rattle.metadata_json.proofs.Laws.{IsTame, get-set, get-set_other, get-add_other, get-add_within, get-add_within_other, get-members, members-set, members-object_at, tame-member, tame-object, tame-none, tame-set, tame-integer, tame-text, tame-unsigned, tame-get, tame-object_at, tame-add, tame-add_within}
+use Rattle.metadata_form.specs.declared.form.Form.TheVariants.{SnapshotId, Long, Moment, RefType, Text}
+use Rattle.metadata_form.specs.declared.fields.Need.TheVariants.{Required, Optional}
+use Rattle.metadata_form.specs.declared.key.Key.TheVariants as Key
+use Rattle.metadata_form.specs.declared.rules.Rule.TheVariants as rule
+use Rattle.metadata_form.specs.Path.{in_member, in_item, itself_unless}
+use Rattle.metadata_form.specs.Form.{misfit, unless_minus_one, is_natural_in, is_ref_type, is_branch_text, items_fault, array_fault, members_fault, object_fault}
+use Rattle.metadata_form.specs.Fields.{field, field_fault, fields_fault, record_fault, found_fault, rule_fault, rules_fault, metadata_rules, snapshot_fields, snapshot_log_fields, metadata_log_fields, ref_fields}
+use Rattle.metadata_form.specs.Fault.{unless_2, list_fault}
 use Rattle.table_metadata.specs.View.{updated_of, current_of, snapshots_of, snapshots_in, snapshot_of, main_ref, new_branch}
 use Rattle.table_metadata.specs.Walk.{snapshot_with}
 use Rattle.table_metadata.specs.Links.{is_main, first_double, main_agrees, current_fault, is_whole_ref, first_broken, refs_fault, ref_fault, first_return}

@@ -8,18 +8,18 @@ use Rattle.serde_json.specs.Data.{Data, null, boolean, number, string, array, ob
 use Rattle.serde_json.specs.Find.{get, get_member, of_integer, as_i64, as_object}
 use Rattle.serde_json.specs.View.{view, items_of}
 use Rattle.serde_json.specs.declared.value.Value.{Value}
-use Rattle.json_edits.specs.Fields.{items_in, members_in}
-use Rattle.json_edits.specs.Edits.{set}
-use Rattle.json_edits.proofs.Laws.{get-set, get-set_other, list_of-items_of}
-use Rattle.metadata_faults.specs.declared.fields.Need.{Need}
-use Rattle.metadata_faults.specs.declared.fields.Need.TheVariants.{Required, Optional, NotNull}
-use Rattle.metadata_faults.specs.declared.fields.Field.{Field}
-use Rattle.metadata_faults.specs.declared.rules.Rule.{Rule}
-use Rattle.metadata_faults.specs.declared.rules.Rule.TheVariants as rule
-use Rattle.metadata_faults.specs.Key.{name_of}
-use Rattle.metadata_faults.specs.Path.{in_member, in_item}
-use Rattle.metadata_faults.specs.Form.{misfit, items_fault, array_fault, members_fault, object_fault}
-use Rattle.metadata_faults.specs.Fields.{is_null, found_fault, field_fault, fields_fault, record_fault, statistics_fault, name_fault, rule_fault, rules_fault, snapshot_fields, snapshot_log_fields, metadata_log_fields, partition_statistics_fields, ref_fields}
+use Rattle.metadata_json.specs.Fields.{items_in, members_in}
+use Rattle.metadata_json.specs.Edits.{set}
+use Rattle.metadata_json.proofs.Laws.{get-set, get-set_other, list_of-items_of}
+use Rattle.metadata_form.specs.declared.fields.Need.{Need}
+use Rattle.metadata_form.specs.declared.fields.Need.TheVariants.{Required, Optional, NotNull}
+use Rattle.metadata_form.specs.declared.fields.Field.{Field}
+use Rattle.metadata_form.specs.declared.rules.Rule.{Rule}
+use Rattle.metadata_form.specs.declared.rules.Rule.TheVariants as rule
+use Rattle.metadata_form.specs.Key.{name_of}
+use Rattle.metadata_form.specs.Path.{in_member, in_item}
+use Rattle.metadata_form.specs.Form.{misfit, items_fault, array_fault, members_fault, object_fault}
+use Rattle.metadata_form.specs.Fields.{is_null, found_fault, field_fault, fields_fault, record_fault, statistics_fault, name_fault, rule_fault, rules_fault, snapshot_fields, snapshot_log_fields, metadata_log_fields, partition_statistics_fields, ref_fields}
 
 -- ---- no fault in either place
 

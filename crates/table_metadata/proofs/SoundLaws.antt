@@ -3,23 +3,23 @@ use Rattle.std.proofs.Common.{◌≡◌, ℕ, suc, ℤ, List, ◌∷◌, drop, B
 use Rattle.serde_json.specs.Data.{Data, null, boolean, number, string, array, object, Items, no_items, item, Members, no_members, member}
 use Rattle.serde_json.specs.Find.{get, as_object, is_float}
 use Rattle.serde_json.specs.Written.{has_float, items_have_float, members_have_float}
-use Rattle.json_edits.specs.Fields.{items_at}
+use Rattle.metadata_json.specs.Fields.{items_at}
 use Rattle.std.specs.Option.{option_or}
-use Rattle.metadata_faults.specs.declared.fault.Fault.{Fault}
-use Rattle.metadata_faults.specs.declared.fault.MetaCause.TheVariants.{Fraction, Field, NoManifestList, DoubleId, BrokenRef, BrokenParent}
-use Rattle.metadata_faults.specs.declared.fields.Need.TheVariants.{Required}
-use Rattle.metadata_faults.specs.declared.form.Form.{Form}
-use Rattle.metadata_faults.specs.declared.form.Form.TheVariants.{Objects}
-use Rattle.metadata_faults.specs.declared.key.Key.{Key}
-use Rattle.metadata_faults.specs.declared.key.Key.TheVariants.{Schemas, PartitionSpecs}
-use Rattle.metadata_faults.specs.declared.rules.Rule.{Rule}
-use Rattle.metadata_faults.specs.declared.rules.Rule.TheVariants as rule
-use Rattle.metadata_faults.specs.Key.{name_of}
-use Rattle.metadata_faults.specs.Path.{in_member, in_item, itself_unless}
-use Rattle.metadata_faults.specs.Float.{first_float, first_float_of_items, first_float_of_members}
-use Rattle.metadata_faults.specs.Form.{items_fault, misfit}
-use Rattle.metadata_faults.specs.Fields.{field, field_fault, rule_fault, rules_fault, metadata_rules, metadata_fault}
-use Rattle.metadata_faults.specs.Fault.{fault_at, other_version, version_fault, list_fault, lists_fault, form_fault}
+use Rattle.metadata_form.specs.declared.fault.Fault.{Fault}
+use Rattle.metadata_form.specs.declared.fault.MetaCause.TheVariants.{Fraction, Field, NoManifestList, DoubleId, BrokenRef, BrokenParent}
+use Rattle.metadata_form.specs.declared.fields.Need.TheVariants.{Required}
+use Rattle.metadata_form.specs.declared.form.Form.{Form}
+use Rattle.metadata_form.specs.declared.form.Form.TheVariants.{Objects}
+use Rattle.metadata_form.specs.declared.key.Key.{Key}
+use Rattle.metadata_form.specs.declared.key.Key.TheVariants.{Schemas, PartitionSpecs}
+use Rattle.metadata_form.specs.declared.rules.Rule.{Rule}
+use Rattle.metadata_form.specs.declared.rules.Rule.TheVariants as rule
+use Rattle.metadata_form.specs.Key.{name_of}
+use Rattle.metadata_form.specs.Path.{in_member, in_item, itself_unless}
+use Rattle.metadata_form.specs.Float.{first_float, first_float_of_items, first_float_of_members}
+use Rattle.metadata_form.specs.Form.{items_fault, misfit}
+use Rattle.metadata_form.specs.Fields.{field, field_fault, rule_fault, rules_fault, metadata_rules, metadata_fault}
+use Rattle.metadata_form.specs.Fault.{fault_at, other_version, version_fault, list_fault, lists_fault, form_fault}
 use Rattle.table_metadata.specs.declared.types.Snapshot.{Snapshot}
 use Rattle.table_metadata.specs.View.{snapshots_of}
 use Rattle.table_metadata.specs.Links.{first_double, double_path, ref_fault, first_return, return_path}

@@ -1,9 +1,9 @@
 -- Bytes that spell no metadata are so for one cause, at one path.
 use Rattle.std.proofs.Common.{◌≡◌, inl, inr, ℕ, List, Some, sym, ap, ◌∙◌}
 use Rattle.serde_json.specs.Data.{Data}
-use Rattle.metadata_faults.specs.declared.fault.Fault.{Fault}
-use Rattle.metadata_faults.specs.declared.fault.MetaCause.{MetaCause}
-use Rattle.metadata_faults.specs.declared.fault.MetaCause.TheVariants.{NotJson}
+use Rattle.metadata_form.specs.declared.fault.Fault.{Fault}
+use Rattle.metadata_form.specs.declared.fault.MetaCause.{MetaCause}
+use Rattle.metadata_form.specs.declared.fault.MetaCause.TheVariants.{NotJson}
 use Rattle.table_metadata.specs.Fault.{fault_of}
 use Rattle.table_metadata.specs.Spelling.{Spells, HasFault}
 

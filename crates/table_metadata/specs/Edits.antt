@@ -4,7 +4,7 @@ use Rattle.std.specs.Prelude.{ℕ, ◌+◌, ◌-◌, ◌*◌, ◌^◌, ℤ, max,
 use Rattle.std.specs.Str.{all_ascii_digits}
 use Rattle.serde_json.specs.Data.{Data, number, string, object, unsigned, member, no_members}
 use Rattle.serde_json.specs.Find.{get, of_integer}
-use Rattle.json_edits.specs.Edits.{set, object_at, add, add_within}
+use Rattle.metadata_json.specs.Edits.{set, object_at, add, add_within}
 use Rattle.table_metadata.specs.Links.{is_main}
 use Rattle.table_metadata.specs.View.{updated_of, property_of, new_branch}
 

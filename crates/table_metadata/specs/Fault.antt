@@ -2,9 +2,9 @@
 use Rattle.std.specs.Prelude.{List, Option, option_map}
 use Rattle.std.specs.Option.{option_or}
 use Rattle.serde_json.specs.Data.{Data}
-use Rattle.metadata_faults.specs.declared.fault.MetaCause.TheVariants.{DoubleId, BrokenRef, BrokenParent}
-use Rattle.metadata_faults.specs.declared.fault.Fault.{Fault}
-use Rattle.metadata_faults.specs.Fault.{fault_at, form_fault}
+use Rattle.metadata_form.specs.declared.fault.MetaCause.TheVariants.{DoubleId, BrokenRef, BrokenParent}
+use Rattle.metadata_form.specs.declared.fault.Fault.{Fault}
+use Rattle.metadata_form.specs.Fault.{fault_at, form_fault}
 use Rattle.table_metadata.specs.View.{snapshots_of}
 use Rattle.table_metadata.specs.Links.{first_double, double_path, ref_fault, first_return, return_path}
 use Rattle.table_metadata.specs.declared.types.Snapshot.{Snapshot}

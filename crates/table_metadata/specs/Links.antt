@@ -5,8 +5,8 @@ use Rattle.std.specs.Option.{option_or}
 use Rattle.std.specs.Ordering.{int_eq}
 use Rattle.std.specs.Str.{bytes_eq}
 use Rattle.serde_json.specs.Data.{Data, Members, no_members, member}
-use Rattle.json_edits.specs.Fields.{members_at, signed_at}
-use Rattle.metadata_faults.specs.Path.{in_member, in_item}
+use Rattle.metadata_json.specs.Fields.{members_at, signed_at}
+use Rattle.metadata_form.specs.Path.{in_member, in_item}
 use Rattle.table_metadata.specs.View.{current_of, main_ref}
 use Rattle.table_metadata.specs.Walk.{snapshot_with, place_with, comes_back}
 use Rattle.table_metadata.specs.declared.types.Snapshot.{Snapshot}

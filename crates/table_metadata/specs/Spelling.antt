@@ -5,8 +5,8 @@ use Rattle.serde_json.specs.Read.{read}
 use Rattle.serde_json.specs.View.{view}
 use Rattle.serde_json.specs.declared.value.Value.{Value}
 use Rattle.table_metadata.specs.Fault.{fault_of}
-use Rattle.metadata_faults.specs.declared.fault.MetaCause.{MetaCause}
-use Rattle.metadata_faults.specs.declared.fault.MetaCause.TheVariants.{NotJson}
+use Rattle.metadata_form.specs.declared.fault.MetaCause.{MetaCause}
+use Rattle.metadata_form.specs.declared.fault.MetaCause.TheVariants.{NotJson}
 use Rattle.table_metadata.specs.declared.cause.MetaErr.{MetaErr}
 use Rattle.table_metadata.specs.declared.cause.MetaErr.TheVariants.{Bad, Memory}
 use Rattle.table_metadata.specs.declared.cause.EditErr.{EditErr}

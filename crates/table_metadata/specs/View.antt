@@ -4,9 +4,9 @@ use Rattle.std.specs.Prelude.{ℕ, ℤ, pos, List, [], ◌∷◌, ◌++◌, map,
 use Rattle.std.specs.Str.{bytes_eq}
 use Rattle.serde_json.specs.Data.{Data, string, number, object, Members, no_members, member}
 use Rattle.serde_json.specs.Find.{get, get_member, as_str, of_integer}
-use Rattle.json_edits.specs.Fields.{signed, unsigned, items_in, items_at, members_at, members_in, signed_at, unsigned_at, text_at}
-use Rattle.json_edits.specs.Edits.{set, object_at}
-use Rattle.metadata_faults.specs.Form.{int, unless_minus_one, is_branch_text}
+use Rattle.metadata_json.specs.Fields.{signed, unsigned, items_in, items_at, members_at, members_in, signed_at, unsigned_at, text_at}
+use Rattle.metadata_json.specs.Edits.{set, object_at}
+use Rattle.metadata_form.specs.Form.{int, unless_minus_one, is_branch_text}
 use Rattle.table_metadata.specs.declared.types.Snapshot.{Snapshot}
 use Rattle.table_metadata.specs.declared.types.Ref.{Ref}
 use Rattle.table_metadata.specs.declared.types.Statistics.{Statistics}

@@ -1,6 +1,6 @@
 //! Why bytes are no metadata, and why an edit isn't made.
 use ice_store::Text;
-use metadata_faults::MetaCause;
+use metadata_form::MetaCause;
 use std::alloc::AllocError;
 
 /// Why `read_meta` refuses bytes.

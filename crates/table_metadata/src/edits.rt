@@ -4,7 +4,7 @@ ghost use Rattle.serde_json.specs.View.{view};
 ghost use Rattle.table_metadata.specs.Edits.{moved_ref, with_moved_ref, snapshot_log_item, with_current, moment_of, with_ref, decimal_of, metadata_log_item, with_previous, next_keeping};
 
 use crate::typed::new_branch;
-use json_edits::{add, add_within, object_at, set, unsigned_or_zero};
+use metadata_json::{add, add_within, object_at, set, unsigned_or_zero};
 use serde_json::{Value, json};
 use std::alloc::{AllocError, Global};
 

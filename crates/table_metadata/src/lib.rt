@@ -17,7 +17,7 @@ mod walk;
 
 pub use cause::{EditErr, MetaErr};
 pub use meta::{Meta, read_meta, write_meta};
-pub use metadata_faults::MetaCause;
+pub use metadata_form::MetaCause;
 pub use types::{
     IdList, Property, PropertyList, Ref, RefList, Snapshot, SnapshotList, Statistics,
     StatisticsList,

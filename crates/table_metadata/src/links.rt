@@ -1,9 +1,9 @@
 //! What is wrong with the refs and parents of a tree.
 ghost use Rattle.std.specs.Prelude.{◌≡◌, codes, IfOk, option_map};
 ghost use Rattle.serde_json.specs.View.{view, members_view};
-ghost use Rattle.json_edits.specs.Fields.{members_at};
-ghost use Rattle.metadata_faults.specs.Fault.{fault_at};
-ghost use Rattle.metadata_faults.specs.declared.fault.MetaCause.TheVariants.{DoubleId};
+ghost use Rattle.metadata_json.specs.Fields.{members_at};
+ghost use Rattle.metadata_form.specs.Fault.{fault_at};
+ghost use Rattle.metadata_form.specs.declared.fault.MetaCause.TheVariants.{DoubleId};
 ghost use Rattle.table_metadata.specs.Index.{IsIndex};
 ghost use Rattle.table_metadata.specs.Fault.{links_fault};
 ghost use Rattle.table_metadata.specs.Links.{snapshot_path, double_path, is_main, main_agrees, current_fault, is_whole_ref, first_broken, refs_fault, ref_fault, return_path};
@@ -13,8 +13,8 @@ use crate::steps::first_return;
 use crate::typed::{current, main_ref};
 use crate::types::Snapshot;
 use ice_store::Text;
-use json_edits::{members, signed_or_zero};
-use metadata_faults::{Fault, MetaCause, fault_at, in_item, in_member};
+use metadata_json::{members, signed_or_zero};
+use metadata_form::{Fault, MetaCause, fault_at, in_item, in_member};
 use serde_json::{Map, Value};
 use std::alloc::{AllocError, Global};
 

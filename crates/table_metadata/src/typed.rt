@@ -2,19 +2,19 @@
 ghost use Rattle.std.specs.Prelude.{◌≡◌, ◌++◌, map, IfOk, IsUtf8, codes, option_map, option_and_then};
 ghost use Rattle.serde_json.specs.Find.{get};
 ghost use Rattle.serde_json.specs.View.{view, members_view};
-ghost use Rattle.json_edits.specs.Fields.{unsigned, text_at};
-ghost use Rattle.metadata_faults.specs.Form.{int};
-ghost use Rattle.json_edits.specs.Edits.{set};
+ghost use Rattle.metadata_json.specs.Fields.{unsigned, text_at};
+ghost use Rattle.metadata_form.specs.Form.{int};
+ghost use Rattle.metadata_json.specs.Edits.{set};
 ghost use Rattle.table_metadata.specs.View.{int_at, current_of, operation_of, snapshot_of, snapshots_of, new_branch, main_ref, refs_tree, ref_of, refs_in, refs_of, statistics_file_of, statistics_of, text_in, properties_in, properties_of, typed_of};
 
 use crate::types::{
     Property, PropertyList, Ref, RefList, Snapshot, SnapshotList, Statistics, StatisticsList,
 };
 use ice_store::{Items, Text};
-use json_edits::{
+use metadata_json::{
     items, members, object_at, set, signed, signed_or_zero, text_or_empty, unsigned_or_zero,
 };
-use metadata_faults::{int, is_branch_text};
+use metadata_form::{int, is_branch_text};
 use serde_json::{Map, Value, json};
 use std::alloc::{AllocError, Global};
 

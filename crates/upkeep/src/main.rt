@@ -8,7 +8,7 @@ ghost use Rattle.std.specs.Prelude.{◌≡◌};
 ghost use Rattle.upkeep.specs.Numbers.{number_of};
 
 use call_syntax::{ArgErr, SyntaxErr, read_statement, typed};
-use dir_store::{DirStore, MachineClock, RandomIds, StreamSink};
+use store_directory::{DirStore, MachineClock, RandomIds, StreamSink};
 use ice_store::{Alone, Place, Sink, StoreErr, Text};
 use std::alloc::{AllocError, Global};
 use std::env;

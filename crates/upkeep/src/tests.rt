@@ -1,8 +1,8 @@
 //! The stored run, over a store in memory, and the program over a real directory.
 use crate::maintain;
-use dir_store::DirStore;
+use store_directory::DirStore;
 use ice_store::{Alone, Bytes, FileList, FileRec, Items, Place, Quiet, Text};
-use memory_store::{CountIds, FixedClock, MemSink, MemStore};
+use store_memory::{CountIds, FixedClock, MemSink, MemStore};
 use std::alloc::Global;
 use std::test::Fail;
 use std::{env, fs};

@@ -11,11 +11,11 @@ use Rattle.ice_store.proofs.OthersLaws.{later-nil}
 use Rattle.ice_store.specs.declared.history.Past.{Past}
 use Rattle.ice_store.specs.declared.history.Step.{Step}
 use Rattle.ice_store.specs.declared.faults.ReadErr.TheVariants.{Missing, Damaged, Unsupported, StoreFault, Memory}
-use Rattle.table_history.specs.Tables.{GoodBy}
-use Rattle.table_history.specs.Versions.{number_in}
-use Rattle.table_history.specs.Runs.{Ran, ours}
-use Rattle.table_publish.specs.Stages.{Narrow, NoReach, Anything, Exactly, Partly, Reaching}
-use Rattle.table_publish.specs.declared.publish.PublishErr.TheVariants as publishes
+use Rattle.commit_history.specs.Tables.{GoodBy}
+use Rattle.commit_history.specs.Versions.{number_in}
+use Rattle.commit_history.specs.Runs.{Ran, ours}
+use Rattle.commit_publish.specs.Stages.{Narrow, NoReach, Anything, Exactly, Partly, Reaching}
+use Rattle.commit_publish.specs.declared.publish.PublishErr.TheVariants as publishes
 use Rattle.commit_protocol.specs.Attempts.{Drafted, PublishedBy, Attempted, CommitLeaves}
 use Rattle.commit_protocol.specs.Metadata.{IsTableOf, IsAt}
 use Rattle.commit_protocol.specs.Verdicts.{IsNobody, IsTable, CommitVerdict, IsIdle}
@@ -27,8 +27,8 @@ use Rattle.commit_protocol.proofs.PromiseLaws.{succeeds}
 use Rattle.commit_protocol.proofs.StepLaws.{commit_steps}
 use Rattle.commit_protocol.proofs.VerdictLaws.{opening_answered}
 use Rattle.run_answers.specs.declared.status.Status.{Status}
-use Rattle.ref_moves.specs.Moves.{Moves, IsThere, RefusesMove, HasSeen}
-use Rattle.ref_moves.specs.declared.goal.Goal.{Goal}
+use Rattle.run_refs.specs.Moves.{Moves, IsThere, RefusesMove, HasSeen}
+use Rattle.run_refs.specs.declared.goal.Goal.{Goal}
 use Rattle.upkeep_top.specs.Promises.{Publishes, VersionsBy, HasSteps, HasSucceeded, Took, DoneSteps, versions_of}
 use Rattle.upkeep_top.specs.Reports.{move_report}
 use Rattle.upkeep_top.specs.Statements.{Nobody, Did, Reports, ReportedBy, RestsBy}

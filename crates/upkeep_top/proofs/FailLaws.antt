@@ -6,10 +6,10 @@ use Rattle.ice_store.specs.Since.{Since}
 use Rattle.ice_store.proofs.SinceLaws.{since_then}
 use Rattle.ice_store.specs.declared.history.Past.{Past}
 use Rattle.ice_store.specs.declared.faults.ReadErr.TheVariants.{Missing, Damaged, Unsupported, StoreFault as Fault, Memory}
-use Rattle.table_publish.proofs.LeftLaws.{rename_behind}
-use Rattle.version_open.specs.Opening.{OpenFaultAt}
-use Rattle.version_open.specs.declared.types.OpenErr.{OpenErr}
-use Rattle.version_open.specs.declared.types.OpenErr.TheVariants as opens
+use Rattle.commit_publish.proofs.LeftLaws.{rename_behind}
+use Rattle.commit_versions.specs.Opening.{OpenFaultAt}
+use Rattle.commit_versions.specs.declared.types.OpenErr.{OpenErr}
+use Rattle.commit_versions.specs.declared.types.OpenErr.TheVariants as opens
 use Rattle.commit_protocol.specs.Failures.{IsFaultOf, TellsFault, IsUnknownEnd}
 use Rattle.commit_protocol.specs.Written.{draft_at, version_at}
 use Rattle.commit_protocol.specs.declared.errors.Refusal.{Refusal}
@@ -20,8 +20,8 @@ use Rattle.commit_protocol.specs.declared.errors.CommitErr.TheVariants.{Open, At
 use Rattle.run_answers.specs.Answers.{status_of}
 use Rattle.run_answers.specs.declared.status.Status.{Status}
 use Rattle.run_answers.specs.declared.status.Status.TheVariants as statuses
-use Rattle.ref_moves.specs.Moves.{RefusesMove}
-use Rattle.ref_moves.specs.declared.goal.Goal.{Goal}
+use Rattle.run_refs.specs.Moves.{RefusesMove}
+use Rattle.run_refs.specs.declared.goal.Goal.{Goal}
 use Rattle.upkeep_top.specs.Points.{Point}
 use Rattle.upkeep_top.specs.Runs.{RanAsked, AskOf, TellsFaultAt, TellsUnknown}
 use Rattle.upkeep_top.specs.Statements.{AnswersBy, Fails}

@@ -12,11 +12,11 @@ use Rattle.ice_store.specs.declared.history.Event.{Event}
 use Rattle.ice_store.specs.declared.history.Past.{Past}
 use Rattle.ice_store.specs.declared.history.Step.{Step}
 use Rattle.ice_store.specs.declared.history.Step.TheVariants.{Rename, SyncNames}
-use Rattle.table_history.specs.Runs.{ours}
-use Rattle.table_history.proofs.Running.{ours-append}
-use Rattle.table_publish.specs.Left.{IsMore, Leaves, Notes, made_by}
-use Rattle.table_publish.specs.Stages.{Anything, draft_plan}
-use Rattle.table_publish.proofs.LeftLaws.{rose_on, without_only}
+use Rattle.commit_history.specs.Runs.{ours}
+use Rattle.commit_history.proofs.Running.{ours-append}
+use Rattle.commit_publish.specs.Left.{IsMore, Leaves, Notes, made_by}
+use Rattle.commit_publish.specs.Stages.{Anything, draft_plan}
+use Rattle.commit_publish.proofs.LeftLaws.{rose_on, without_only}
 use Rattle.commit_protocol.specs.Written.{IsNamingOf, commits, commit_count}
 use Rattle.commit_protocol.specs.declared.errors.Committed.{Committed}
 use Rattle.commit_protocol.specs.declared.errors.Committed.TheVariants.{Same, Published}

@@ -9,15 +9,15 @@ use Rattle.ice_store.proofs.OthersLaws.{later-nil}
 use Rattle.ice_store.specs.declared.history.Past.{Past}
 use Rattle.ice_store.specs.declared.faults.ReadErr.TheVariants.{Memory}
 use Rattle.table_metadata.specs.declared.cause.EditErr.TheVariants.{UnknownSnapshot as Lacks}
-use Rattle.version_open.specs.declared.types.OpenErr.{OpenErr}
+use Rattle.commit_versions.specs.declared.types.OpenErr.{OpenErr}
 use Rattle.commit_protocol.specs.Verdicts.{IsTable, OpenVerdict, IsIdle}
 use Rattle.commit_protocol.specs.declared.errors.Refusal.TheVariants.{UnknownSnapshot}
 use Rattle.commit_protocol.specs.declared.errors.AttemptErr.TheVariants.{Refused, Read}
 use Rattle.commit_protocol.specs.declared.errors.CommitErr.TheVariants.{Open, Attempt}
 use Rattle.commit_protocol.specs.declared.errors.Committed.TheVariants.{Same}
 use Rattle.run_answers.specs.declared.status.Status.{Status}
-use Rattle.ref_moves.specs.Ancestors.{Lists}
-use Rattle.ref_moves.specs.declared.ancestors.Ancestor.{Ancestor}
+use Rattle.run_refs.specs.Ancestors.{Lists}
+use Rattle.run_refs.specs.declared.ancestors.Ancestor.{Ancestor}
 use Rattle.upkeep_top.specs.Promises.{VersionsBy, HasSucceeded, DoneSteps}
 use Rattle.upkeep_top.specs.Reports.{list_report}
 use Rattle.upkeep_top.specs.Statements.{Did, Reports, ReportedBy, RestsBy}
@@ -26,7 +26,7 @@ use Rattle.upkeep_top.specs.declared.task.Task.{Task}
 use Rattle.upkeep_top.specs.declared.task.Work.TheVariants.{List as Listing}
 use Rattle.upkeep_top.proofs.StepLaws.{publishes_none}
 use Rattle.upkeep_top.proofs.StopLaws.{safe_none}
-use Rattle.table_history.specs.Versions.{number_in}
+use Rattle.commit_history.specs.Versions.{number_in}
 use Rattle.upkeep_top.specs.Statements.{IsSafeFor}
 
 -- nothing was done

@@ -12,8 +12,8 @@ use Rattle.ice_store.specs.declared.faults.ReadErr.TheVariants.{Missing, Damaged
 use Rattle.table_metadata.specs.View.{snapshots_of, current_of}
 use Rattle.table_metadata.specs.Walk.{snapshot_with}
 use Rattle.table_metadata.specs.declared.types.Snapshot.{Snapshot}
-use Rattle.table_publish.specs.Stages.{Anything}
-use Rattle.version_open.specs.declared.types.OpenErr.TheVariants as opens
+use Rattle.commit_publish.specs.Stages.{Anything}
+use Rattle.commit_versions.specs.declared.types.OpenErr.TheVariants as opens
 use Rattle.commit_protocol.specs.declared.errors.Refusal.{Refusal}
 use Rattle.commit_protocol.specs.declared.errors.Refusal.TheVariants as refusals
 use Rattle.commit_protocol.specs.declared.errors.AttemptErr.TheVariants as attempts
@@ -22,10 +22,10 @@ use Rattle.commit_protocol.specs.declared.errors.CommitErr.TheVariants.{Open, At
 use Rattle.run_answers.specs.Answers.{status_of}
 use Rattle.run_answers.specs.declared.status.Status.{Status}
 use Rattle.run_answers.specs.declared.status.Status.TheVariants.{BadStatement, BadArgument, OutOfMemory}
-use Rattle.ref_moves.specs.Moves.{Aims, AimsBack, AimsAt, AimsTo, AimsForward, AimsIfAncestor}
-use Rattle.ref_moves.specs.Refs.{ref_at, branch_at}
-use Rattle.ref_moves.specs.declared.goal.Goal.{Goal}
-use Rattle.ref_moves.specs.declared.goal.Goal.TheVariants.{Rollback, SetCurrent, SetCurrentTo, FastForward}
+use Rattle.run_refs.specs.Moves.{Aims, AimsBack, AimsAt, AimsTo, AimsForward, AimsIfAncestor}
+use Rattle.run_refs.specs.Refs.{ref_at, branch_at}
+use Rattle.run_refs.specs.declared.goal.Goal.{Goal}
+use Rattle.run_refs.specs.declared.goal.Goal.TheVariants.{Rollback, SetCurrent, SetCurrentTo, FastForward}
 use Rattle.upkeep_top.specs.Chains.{Leads}
 use Rattle.upkeep_top.specs.Points.{Point}
 use Rattle.upkeep_top.specs.Runs.{IsDone, IsRefusal, RunsBy, TellsBadArgument}

@@ -7,7 +7,7 @@ use Rattle.ice_store.specs.History.{replay}
 use Rattle.ice_store.specs.Places.{Parts}
 use Rattle.ice_store.specs.Since.{Since}
 use Rattle.ice_store.proofs.SinceLaws.{since_turned, since_then, since_start}
-use Rattle.table_publish.specs.Stages.{Anything}
+use Rattle.commit_publish.specs.Stages.{Anything}
 use Rattle.ice_store.specs.declared.history.Past.{Past}
 use Rattle.run_answers.specs.declared.status.Status.{Status}
 use Rattle.run_answers.specs.declared.status.Status.TheVariants.{Done, BadStatement, StoreFault, CommitUnknown, OutFault, OutOfMemory}
@@ -15,7 +15,7 @@ use Rattle.upkeep_top.specs.Points.{Point}
 use Rattle.upkeep_top.specs.Chains.{Leads}
 use Rattle.commit_protocol.specs.Promises.{AtEachStop, HasPrefix, HasFiles}
 use Rattle.commit_protocol.proofs.PromiseLaws.{prefixes, files}
-use Rattle.table_publish.proofs.LeftLaws.{rose_on}
+use Rattle.commit_publish.proofs.LeftLaws.{rose_on}
 use Rattle.upkeep_top.specs.Runs.{IsDone, IsRefusal, RanAsked, RunsBy, Runs, TellsBadArgument, Row, LastRow, ComesExactly, LastAsks, IsComplete, IsSafeRun, KeepsPrefix, KeepsFiles, EachSucceeds, TellsVersions, LeavesPlaces, TellsFaultAt, TellsUnknown, MayLeave}
 use Rattle.upkeep_top.specs.Statements.{Ends, Did, Nobody, Any, IsSafeFor, Halts}
 use Rattle.upkeep_top.specs.Verdicts.{Verdict, IsFree, end_status}

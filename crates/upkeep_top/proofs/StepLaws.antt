@@ -10,11 +10,11 @@ use Rattle.ice_store.specs.declared.history.Step.{Step}
 use Rattle.ice_store.specs.declared.history.Step.TheVariants.{Create, Append, Seal, Rename, Remove, SyncNames}
 use Rattle.ice_store.specs.declared.history.Who.{Who}
 use Rattle.ice_store.specs.declared.history.Who.TheVariants.{Us, Them}
-use Rattle.table_history.specs.Commits.{is_sync}
-use Rattle.table_history.specs.Runs.{AllProper, IsProperBy, Ran, ours, ours_by}
-use Rattle.table_history.specs.Tables.{GoodBy, ReachBy}
-use Rattle.table_history.proofs.Running.{ours-append}
-use Rattle.table_publish.specs.Stages.{Begun, BegunFill, Then, Partly, Reaching, draft_plan, fill_plan}
+use Rattle.commit_history.specs.Commits.{is_sync}
+use Rattle.commit_history.specs.Runs.{AllProper, IsProperBy, Ran, ours, ours_by}
+use Rattle.commit_history.specs.Tables.{GoodBy, ReachBy}
+use Rattle.commit_history.proofs.Running.{ours-append}
+use Rattle.commit_publish.specs.Stages.{Begun, BegunFill, Then, Partly, Reaching, draft_plan, fill_plan}
 use Rattle.upkeep_top.specs.Promises.{version_by, renamed_to, versions_of, Publishes}
 use Rattle.upkeep_top.specs.Statements.{Nobody}
 

@@ -5,11 +5,11 @@ use Rattle.ice_store.specs.Others.{WhereTold}
 use Rattle.ice_store.specs.Since.{Since}
 use Rattle.ice_store.proofs.SinceLaws.{since_turned, since_then, since_start}
 use Rattle.ice_store.specs.declared.history.Past.{Past}
-use Rattle.table_history.specs.Versions.{number_in}
-use Rattle.table_history.proofs.Numbering.{numbering}
-use Rattle.table_history.proofs.Running.{ran_then, ran_turned, begins}
-use Rattle.table_publish.specs.Stages.{Narrow, NoReach, Anything}
-use Rattle.table_publish.proofs.Narrow.{narrow_local}
+use Rattle.commit_history.specs.Versions.{number_in}
+use Rattle.commit_history.proofs.Numbering.{numbering}
+use Rattle.commit_history.proofs.Running.{ran_then, ran_turned, begins}
+use Rattle.commit_publish.specs.Stages.{Narrow, NoReach, Anything}
+use Rattle.commit_publish.proofs.Narrow.{narrow_local}
 use Rattle.commit_protocol.specs.Metadata.{IsTableOf}
 use Rattle.run_answers.specs.declared.status.Status.{Status}
 use Rattle.run_answers.specs.declared.status.Status.TheVariants.{Done}

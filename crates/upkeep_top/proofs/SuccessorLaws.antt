@@ -9,7 +9,7 @@ use Rattle.ice_store.specs.Since.{Since}
 use Rattle.ice_store.proofs.SinceLaws.{since_turned, since_then, since_start}
 use Rattle.ice_store.specs.declared.history.Event.{Event}
 use Rattle.ice_store.specs.declared.history.Past.{Past}
-use Rattle.table_publish.specs.Stages.{Anything}
+use Rattle.commit_publish.specs.Stages.{Anything}
 use Rattle.commit_protocol.specs.Written.{commits}
 use Rattle.commit_protocol.specs.declared.errors.Committed.TheVariants.{Same, Published}
 use Rattle.run_answers.specs.declared.status.Status.{Status}

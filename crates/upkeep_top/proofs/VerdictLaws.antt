@@ -5,8 +5,8 @@ use Rattle.ice_store.specs.Calls.{Rose}
 use Rattle.ice_store.specs.Places.{Parts}
 use Rattle.ice_store.specs.declared.history.Held.{Held}
 use Rattle.ice_store.specs.declared.faults.ReadErr.TheVariants.{Missing, Damaged, Unsupported, StoreFault as Fault, Memory}
-use Rattle.version_open.specs.declared.types.OpenErr.{OpenErr}
-use Rattle.version_open.specs.declared.types.OpenErr.TheVariants as opens
+use Rattle.commit_versions.specs.declared.types.OpenErr.{OpenErr}
+use Rattle.commit_versions.specs.declared.types.OpenErr.TheVariants as opens
 use Rattle.table_metadata.specs.declared.cause.EditErr.TheVariants.{UnknownSnapshot as Lacks}
 use Rattle.commit_protocol.specs.Causes.{CommitRose}
 use Rattle.commit_protocol.specs.Verdicts.{IsTable, Shown, IsTold, IsPlain, IsDecided, IsOneDrawn}
@@ -20,11 +20,11 @@ use Rattle.commit_protocol.specs.declared.errors.Committed.TheVariants.{Same, Pu
 use Rattle.run_answers.specs.Answers.{status_of}
 use Rattle.run_answers.specs.declared.status.Status.{Status}
 use Rattle.run_answers.specs.declared.status.Status.TheVariants as statuses
-use Rattle.ref_moves.specs.Ancestors.{Lists}
-use Rattle.ref_moves.specs.Moves.{Moves, IsThere, RefusesMove}
-use Rattle.ref_moves.specs.declared.goal.Goal.{Goal}
-use Rattle.ref_moves.proofs.AimLaws.{one_successor, moves_or_is_there, one_refusal, not_both}
-use Rattle.ref_moves.proofs.ListingLaws.{lists_or_lacks}
+use Rattle.run_refs.specs.Ancestors.{Lists}
+use Rattle.run_refs.specs.Moves.{Moves, IsThere, RefusesMove}
+use Rattle.run_refs.specs.declared.goal.Goal.{Goal}
+use Rattle.run_refs.proofs.AimLaws.{one_successor, moves_or_is_there, one_refusal, not_both}
+use Rattle.run_refs.proofs.ListingLaws.{lists_or_lacks}
 use Rattle.upkeep_top.specs.Statements.{AnswersBy}
 use Rattle.upkeep_top.specs.Verdicts.{End, HasListing, RefusesList, ListVerdict, WorkVerdict, TaskVerdict, end_status, IsFree}
 use Rattle.upkeep_top.specs.declared.task.Task.{Task}

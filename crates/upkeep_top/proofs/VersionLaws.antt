@@ -8,9 +8,9 @@ use Rattle.ice_store.specs.Since.{Since}
 use Rattle.ice_store.proofs.SinceLaws.{since_turned, since_then, since_start, since_where}
 use Rattle.ice_store.specs.declared.history.Past.{Past}
 use Rattle.ice_store.specs.declared.faults.ReadErr.TheVariants.{Missing, Damaged, Unsupported, StoreFault as Fault, Memory}
-use Rattle.table_history.specs.Versions.{number_in}
-use Rattle.table_publish.specs.Stages.{Anything}
-use Rattle.version_open.specs.declared.types.OpenErr.TheVariants as opens
+use Rattle.commit_history.specs.Versions.{number_in}
+use Rattle.commit_publish.specs.Stages.{Anything}
+use Rattle.commit_versions.specs.declared.types.OpenErr.TheVariants as opens
 use Rattle.commit_protocol.specs.Written.{CommitLeft, commits}
 use Rattle.commit_protocol.specs.declared.errors.Refusal.{Refusal}
 use Rattle.commit_protocol.specs.declared.errors.Refusal.TheVariants as refusals

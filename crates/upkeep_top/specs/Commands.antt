@@ -7,8 +7,8 @@ use Rattle.call_syntax.specs.declared.command.Command.{Command}
 use Rattle.call_syntax.specs.declared.command.Command.TheVariants as commands
 use Rattle.call_syntax.specs.declared.command.Target.{Target}
 use Rattle.call_syntax.specs.declared.command.Target.TheVariants.{Id, Ref}
-use Rattle.ref_moves.specs.declared.goal.Goal.{Goal}
-use Rattle.ref_moves.specs.declared.goal.Goal.TheVariants.{Rollback, SetCurrent, SetCurrentTo, FastForward}
+use Rattle.run_refs.specs.declared.goal.Goal.{Goal}
+use Rattle.run_refs.specs.declared.goal.Goal.TheVariants.{Rollback, SetCurrent, SetCurrentTo, FastForward}
 use Rattle.upkeep_top.specs.declared.task.Task.{Task}
 use Rattle.upkeep_top.specs.declared.task.Work.TheVariants.{Move, List as Listing}
 

@@ -7,14 +7,14 @@ use Rattle.ice_store.specs.declared.history.Past.{Past}
 use Rattle.ice_store.specs.declared.history.Step.{Step}
 use Rattle.ice_store.specs.declared.history.Step.TheVariants.{Create, Append, Seal, Rename, Remove, SyncNames}
 use Rattle.ice_store.specs.declared.faults.ReadErr.TheVariants.{Missing, Damaged, Unsupported, StoreFault, Memory}
-use Rattle.table_history.specs.Versions.{number_in}
-use Rattle.table_history.specs.Runs.{ours}
-use Rattle.table_publish.specs.Stages.{draft_plan}
+use Rattle.commit_history.specs.Versions.{number_in}
+use Rattle.commit_history.specs.Runs.{ours}
+use Rattle.commit_publish.specs.Stages.{draft_plan}
 use Rattle.commit_protocol.specs.Promises.{Succession}
 use Rattle.commit_protocol.specs.declared.errors.AttemptErr.TheVariants as attempts
 use Rattle.commit_protocol.specs.declared.errors.CommitErr.TheVariants.{Open, Attempt, Contended, CommitUnknown}
 use Rattle.commit_protocol.specs.declared.errors.Committed.TheVariants.{Same, Published}
-use Rattle.ref_moves.specs.Moves.{Moves}
+use Rattle.run_refs.specs.Moves.{Moves}
 use Rattle.upkeep_top.specs.Verdicts.{End}
 use Rattle.upkeep_top.specs.declared.task.Task.{Task}
 use Rattle.upkeep_top.specs.declared.task.Work.{Work}

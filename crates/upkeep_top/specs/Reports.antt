@@ -3,11 +3,11 @@ use Rattle.std.specs.Prelude.{◌≡◌, ℕ, ℤ, List, [], ◌∷◌, map, cod
 use Rattle.std.specs.Fmt.{decimal, signed_decimal}
 use Rattle.serde_json.specs.Data.{Data}
 use Rattle.run_answers.specs.Reports.{report_text, id_cell}
-use Rattle.ref_moves.specs.Ancestors.{Lists}
-use Rattle.ref_moves.specs.Moves.{HasSeen}
-use Rattle.ref_moves.specs.declared.ancestors.Ancestor.{Ancestor}
-use Rattle.ref_moves.specs.declared.goal.Goal.{Goal}
-use Rattle.ref_moves.specs.declared.goal.Goal.TheVariants.{Rollback, SetCurrent, SetCurrentTo, FastForward}
+use Rattle.run_refs.specs.Ancestors.{Lists}
+use Rattle.run_refs.specs.Moves.{HasSeen}
+use Rattle.run_refs.specs.declared.ancestors.Ancestor.{Ancestor}
+use Rattle.run_refs.specs.declared.goal.Goal.{Goal}
+use Rattle.run_refs.specs.declared.goal.Goal.TheVariants.{Rollback, SetCurrent, SetCurrentTo, FastForward}
 use Rattle.upkeep_top.specs.declared.task.Work.{Work}
 use Rattle.upkeep_top.specs.declared.task.Work.TheVariants.{Move, List as Listing}
 

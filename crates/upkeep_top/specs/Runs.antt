@@ -6,12 +6,12 @@ use Rattle.ice_store.specs.History.{replay, later}
 use Rattle.ice_store.specs.Since.{Since}
 use Rattle.ice_store.specs.declared.history.Event.{Event}
 use Rattle.ice_store.specs.declared.history.Past.{Past}
-use Rattle.table_history.specs.Versions.{number_in}
+use Rattle.commit_history.specs.Versions.{number_in}
 use Rattle.commit_protocol.specs.Promises.{StopsHavePrefix, StopsHaveFiles}
 use Rattle.commit_protocol.specs.Verdicts.{IsOneDrawn}
 use Rattle.commit_protocol.specs.Written.{draft_at, version_at}
-use Rattle.table_publish.specs.Left.{IsNaming, Leaves, TellsRename}
-use Rattle.version_open.specs.Opening.{IsAskedFor}
+use Rattle.commit_publish.specs.Left.{IsNaming, Leaves, TellsRename}
+use Rattle.commit_versions.specs.Opening.{IsAskedFor}
 use Rattle.ice_store.specs.declared.history.Step.{Step}
 use Rattle.run_answers.specs.declared.status.Status.{Status}
 use Rattle.run_answers.specs.declared.status.Status.TheVariants.{Done, BadArgument, StoreFault, CommitUnknown, OutOfMemory}

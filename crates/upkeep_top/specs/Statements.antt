@@ -11,12 +11,12 @@ use Rattle.ice_store.specs.declared.history.Held.{Held}
 use Rattle.ice_store.specs.declared.history.Past.{Past}
 use Rattle.ice_store.specs.declared.history.Step.{Step}
 use Rattle.ice_store.specs.declared.faults.ReadErr.TheVariants.{StoreFault}
-use Rattle.table_history.specs.Runs.{Ran}
-use Rattle.table_history.specs.Versions.{number_in}
-use Rattle.table_publish.specs.Left.{Notes}
-use Rattle.table_publish.specs.Stages.{Narrow, NoReach, Anything}
-use Rattle.version_open.specs.Opening.{OpenFaultAt}
-use Rattle.version_open.specs.declared.types.OpenErr.{OpenErr}
+use Rattle.commit_history.specs.Runs.{Ran}
+use Rattle.commit_history.specs.Versions.{number_in}
+use Rattle.commit_publish.specs.Left.{Notes}
+use Rattle.commit_publish.specs.Stages.{Narrow, NoReach, Anything}
+use Rattle.commit_versions.specs.Opening.{OpenFaultAt}
+use Rattle.commit_versions.specs.declared.types.OpenErr.{OpenErr}
 use Rattle.commit_protocol.specs.Causes.{CommitRose}
 use Rattle.commit_protocol.specs.Failures.{IsFaultOf, IsUnknownEnd}
 use Rattle.commit_protocol.specs.Metadata.{IsTableOf}
@@ -27,8 +27,8 @@ use Rattle.commit_protocol.specs.declared.errors.CommitErr.TheVariants.{Open, At
 use Rattle.run_answers.specs.Answers.{status_of}
 use Rattle.run_answers.specs.declared.status.Status.{Status}
 use Rattle.run_answers.specs.declared.status.Status.TheVariants.{Done, UnknownSnapshot, OutFault, OutOfMemory}
-use Rattle.ref_moves.specs.Ancestors.{Lists}
-use Rattle.ref_moves.specs.declared.ancestors.Ancestor.{Ancestor}
+use Rattle.run_refs.specs.Ancestors.{Lists}
+use Rattle.run_refs.specs.declared.ancestors.Ancestor.{Ancestor}
 use Rattle.table_metadata.specs.declared.cause.EditErr.TheVariants.{UnknownSnapshot as Lacks}
 use Rattle.upkeep_top.specs.Points.{Point}
 use Rattle.upkeep_top.specs.Promises.{HasSucceeded, HasSteps, Took, DoneSteps}

@@ -16,9 +16,9 @@ use Rattle.commit_protocol.specs.declared.errors.Committed.TheVariants.{Same, Pu
 use Rattle.run_answers.specs.Answers.{status_of}
 use Rattle.run_answers.specs.declared.status.Status.{Status}
 use Rattle.run_answers.specs.declared.status.Status.TheVariants as statuses
-use Rattle.ref_moves.specs.Ancestors.{Lists}
-use Rattle.ref_moves.specs.Moves.{Moves, IsThere, RefusesMove}
-use Rattle.ref_moves.specs.declared.ancestors.Ancestor.{Ancestor}
+use Rattle.run_refs.specs.Ancestors.{Lists}
+use Rattle.run_refs.specs.Moves.{Moves, IsThere, RefusesMove}
+use Rattle.run_refs.specs.declared.ancestors.Ancestor.{Ancestor}
 use Rattle.upkeep_top.specs.declared.task.Task.{Task}
 use Rattle.upkeep_top.specs.declared.task.Work.{Work}
 use Rattle.upkeep_top.specs.declared.task.Work.TheVariants.{Move, List as Listing}

@@ -4,7 +4,7 @@ ghost use Rattle.upkeep_top.specs.Reports.{ancestor_row, branch_columns, move_re
 ghost use Rattle.run_answers.specs.Reports.{report_text};
 
 use ice_store::{Items, Text, TextList};
-use ref_moves::{Ancestor, Goal, RefMove};
+use run_refs::{Ancestor, Goal, RefMove};
 use run_answers::{CellRows, columns, id_cell, number_cell, optional_id_cell, report};
 use std::alloc::{AllocError, Global};
 

@@ -3,7 +3,7 @@ ghost use Rattle.std.specs.Prelude.{◌≡◌, ◌≤◌, ◌<◌, ◌^◌, [], 
 ghost use Rattle.ice_store.specs.Calls.{Rose};
 ghost use Rattle.ice_store.specs.Others.{WhereTold};
 ghost use Rattle.serde_json.specs.View.{view};
-ghost use Rattle.table_publish.specs.Stages.{At as Stands};
+ghost use Rattle.commit_publish.specs.Stages.{At as Stands};
 ghost use Rattle.upkeep_top.specs.Points.{point};
 ghost use Rattle.upkeep_top.specs.Reports.{list_report};
 ghost use Rattle.upkeep_top.specs.Statements.{Ends, IsEnd, Reports, IsListedBy};
@@ -13,7 +13,7 @@ use crate::report::{report_ancestors, report_move};
 use crate::task::{Task, Work};
 use commit_protocol::{Log, commit_change, open_table};
 use ice_store::{Alone, Clock, Ids, Place, Sink, Store, Text};
-use ref_moves::{Goal, RefMove, list_ancestors};
+use run_refs::{Goal, RefMove, list_ancestors};
 use run_answers::{Status, status_of_error, status_of_open};
 use std::alloc::{AllocError, Global};
 use table_metadata::{EditErr, Meta};

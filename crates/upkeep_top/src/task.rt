@@ -1,6 +1,6 @@
 //! What the words of a run ask for.
 use ice_store::Place;
-use ref_moves::Goal;
+use run_refs::Goal;
 
 /// The work of a statement.
 #[derive(Debug, Drop)]

@@ -8,7 +8,7 @@
 //! - `stops`: what a stop leaves.
 use crate::{Outcome, run};
 use ice_store::{Alone, Bytes, FileRec, Items, Place, Quiet, Step, Text};
-use memory_store::{CountIds, FailAt, FixedClock, MemSink, MemStore};
+use store_memory::{CountIds, FailAt, FixedClock, MemSink, MemStore};
 use std::alloc::{AllocError, Global};
 use std::test::Fail;
 

@@ -6,7 +6,7 @@ ghost use Rattle.ice_store.specs.Places.{Parts};
 ghost use Rattle.ice_store.specs.Since.{Since};
 ghost use Rattle.ice_store.specs.declared.faults.What.{What as TheWhat};
 ghost use Rattle.ice_store.specs.declared.faults.Where.{Where as TheWhere};
-ghost use Rattle.table_publish.specs.Stages.{At as Stands};
+ghost use Rattle.commit_publish.specs.Stages.{At as Stands};
 ghost use Rattle.run_answers.specs.Messages.{message_line};
 ghost use Rattle.run_answers.specs.Puts.{TakesPrefix, TakesAll};
 ghost use Rattle.run_answers.specs.declared.status.Status.{Status as TheStatus};

@@ -10,7 +10,7 @@ ghost use Rattle.upkeep_top.specs.declared.task.Task.{Task as TheTask};
 use crate::task::{Task, Work};
 use call_syntax::{ArgErr, Call, Command, SyntaxErr, Target, read_statement, typed};
 use ice_store::{Items, Place, Text};
-use ref_moves::Goal;
+use run_refs::Goal;
 use run_answers::Status;
 use std::alloc::Global;
 

@@ -1,7 +1,7 @@
 //! Output that fails.
 use super::{no_failures, run_over, shown, sink, table, version_3, words_of};
 use ice_store::Items;
-use memory_store::MemSink;
+use store_memory::MemSink;
 use std::alloc::Global;
 use std::test::Fail;
 

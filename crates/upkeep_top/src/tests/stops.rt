@@ -4,7 +4,7 @@ use super::{
 };
 use commit_protocol::open_table;
 use ice_store::{Alone, Bytes, Items, Place};
-use memory_store::{Choice, FailAt, Torn};
+use store_memory::{Choice, FailAt, Torn};
 use std::alloc::Global;
 use std::test::Fail;
 

@@ -1,16 +1,16 @@
 use Rattle.std.proofs.Common.{◌≡◌, inl, inr, ℕ, List, [], Option, Ok, Err, refl, sym, ◌∙◌, subst, arith, true≢false}
 use Rattle.ice_store.specs.Calls.{Rose}
 use Rattle.ice_store.specs.Places.{Parts}
-use Rattle.table_history.specs.Runs.{Ran}
+use Rattle.commit_history.specs.Runs.{Ran}
 use Rattle.ice_store.specs.Given.{Gives}
 use Rattle.ice_store.specs.Since.{Since}
 use Rattle.ice_store.proofs.SinceLaws.{since_start, since_then, since_turned}
 use Rattle.serde_json.specs.View.{view}
-use Rattle.table_history.specs.Versions.{number_in}
+use Rattle.commit_history.specs.Versions.{number_in}
 use Rattle.table_metadata.specs.Edits.{HasVersionLimit}
-use Rattle.table_publish.specs.Stages.{Narrow, NoReach, Exactly, At as Stands}
-use Rattle.table_publish.specs.Left.{Notes}
-use Rattle.version_open.specs.Opening.{OpenStage}
+use Rattle.commit_publish.specs.Stages.{Narrow, NoReach, Exactly, At as Stands}
+use Rattle.commit_publish.specs.Left.{Notes}
+use Rattle.commit_versions.specs.Opening.{OpenStage}
 use Rattle.commit_protocol.specs.Metadata.{IsTableOf}
 use Rattle.commit_protocol.specs.Written.{PublishedLeaves, IsNamingOf, commit_count}
 use Rattle.commit_protocol.proofs.NoteLaws.{notes_none, notes_after}

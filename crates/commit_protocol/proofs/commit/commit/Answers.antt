@@ -5,9 +5,9 @@ use Rattle.ice_store.specs.History.{replay}
 use Rattle.ice_store.specs.Given.{Gives}
 use Rattle.ice_store.specs.Since.{Since}
 use Rattle.ice_store.proofs.SinceLaws.{since_then, since_turned}
-use Rattle.table_history.specs.Versions.{number_in}
-use Rattle.table_publish.specs.Stages.{Narrow, NoReach, Anything}
-use Rattle.table_publish.specs.Left.{Notes}
+use Rattle.commit_history.specs.Versions.{number_in}
+use Rattle.commit_publish.specs.Stages.{Narrow, NoReach, Anything}
+use Rattle.commit_publish.specs.Left.{Notes}
 use Rattle.commit_protocol.specs.Metadata.{IsTableOf}
 use Rattle.commit_protocol.specs.Metadata.{IsAt, OpenErrLeaves}
 use Rattle.commit_protocol.specs.Written.{IsNamingOf, commit_count}
@@ -15,7 +15,7 @@ use Rattle.commit_protocol.proofs.NoteLaws.{notes_none, notes_after}
 use Rattle.commit_protocol.proofs.FailureLaws.{unknown_behind}
 use Rattle.commit_protocol.specs.Failures.{IsUnknownEnd}
 use Rattle.commit_protocol.specs.declared.errors.CommitErr.{CommitErr}
-use Rattle.version_open.specs.Opening.{OpenFaultAt}
+use Rattle.commit_versions.specs.Opening.{OpenFaultAt}
 use Rattle.commit_protocol.proofs.StepLaws.{opened_idle, open_err_idle}
 use Rattle.commit_protocol.proofs.PromiseLaws.{stops_have_prefix, stops_have_files, each_succeeds}
 use Rattle.commit_protocol.specs.Attempts.{AttemptLeaves, CommitLeaves}

@@ -5,8 +5,8 @@ use Rattle.serde_json.specs.Written.{compact_text}
 use Rattle.table_metadata.specs.Spelling.{Spells}
 use Rattle.table_metadata.specs.View.{location_of}
 use Rattle.table_metadata.specs.Edits.{next_version}
-use Rattle.version_open.specs.Opening.{file_limit}
-use Rattle.version_names.specs.Names.{version_text_of}
+use Rattle.commit_versions.specs.Opening.{file_limit}
+use Rattle.commit_versions.specs.Names.{version_text_of}
 use Rattle.commit_protocol.specs.Written.{next_tree}
 use Rattle.commit_protocol.proofs.CommitLaws as laws
 use Rattle.commit_protocol.proofs.commit.draw_up.Goals as goal

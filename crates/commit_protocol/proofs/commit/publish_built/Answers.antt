@@ -5,13 +5,13 @@ use Rattle.ice_store.specs.Given.{Gives}
 use Rattle.ice_store.specs.Since.{Since}
 use Rattle.ice_store.proofs.SinceLaws.{since_start, since_turned}
 use Rattle.serde_json.specs.View.{view}
-use Rattle.table_history.specs.Versions.{number_in}
-use Rattle.table_publish.specs.Stages.{Narrow, NoReach, At as Stands}
-use Rattle.table_publish.specs.Leaves.{PublishLeaves}
-use Rattle.version_open.specs.Opening.{OpenStage}
+use Rattle.commit_history.specs.Versions.{number_in}
+use Rattle.commit_publish.specs.Stages.{Narrow, NoReach, At as Stands}
+use Rattle.commit_publish.specs.Leaves.{PublishLeaves}
+use Rattle.commit_versions.specs.Opening.{OpenStage}
 use Rattle.commit_protocol.specs.Metadata.{IsTableOf}
-use Rattle.table_publish.specs.Left.{IsNaming, Notes, TellsRename}
-use Rattle.table_publish.specs.declared.publish.PublishErr.{PublishErr}
+use Rattle.commit_publish.specs.Left.{IsNaming, Notes, TellsRename}
+use Rattle.commit_publish.specs.declared.publish.PublishErr.{PublishErr}
 use Rattle.ice_store.specs.declared.faults.ReadErr.TheVariants.{StoreFault}
 use Rattle.commit_protocol.specs.Failures.{IsUnknownEnd}
 use Rattle.commit_protocol.specs.declared.errors.AttemptErr.TheVariants as attempts

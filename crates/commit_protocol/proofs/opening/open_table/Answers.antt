@@ -1,9 +1,9 @@
 use Rattle.std.proofs.Common.{◌≡◌, Ok, Err}
 use Rattle.ice_store.specs.History.{replay}
 use Rattle.ice_store.proofs.SinceLaws.{since_turned}
-use Rattle.table_history.specs.Versions.{number_in}
-use Rattle.table_publish.specs.Stages.{Narrow, NoReach}
-use Rattle.version_open.specs.Opening.{OpenLeaves}
+use Rattle.commit_history.specs.Versions.{number_in}
+use Rattle.commit_publish.specs.Stages.{Narrow, NoReach}
+use Rattle.commit_versions.specs.Opening.{OpenLeaves}
 use Rattle.commit_protocol.specs.Metadata.{IsTableOf, TableLeaves, OpenErrLeaves}
 use Rattle.commit_protocol.specs.Verdicts.{OpenVerdict, IsExactOpening}
 use Rattle.commit_protocol.proofs.OpeningLaws as opening

@@ -1,6 +1,6 @@
 use Rattle.std.proofs.Common.{◌≡◌, inr, Some, sym, subst, ◌∙◌}
 use Rattle.serde_json.specs.View.{view}
-use Rattle.metadata_faults.specs.Fault.{form_fault}
+use Rattle.metadata_form.specs.Fault.{form_fault}
 use Rattle.table_metadata.specs.Fault.{fault_of}
 use Rattle.table_metadata.specs.Spelling.{IsRefused}
 use Rattle.table_metadata.proofs.SoundLaws.{form-first}

@@ -7,8 +7,8 @@ use Rattle.ice_store.specs.declared.history.Past.{Past}
 use Rattle.commit_protocol.specs.declared.errors.AttemptErr.TheVariants.{Read}
 use Rattle.commit_protocol.specs.declared.errors.CommitErr.TheVariants.{Attempt}
 use Rattle.run_answers.specs.declared.status.Status.TheVariants.{OutOfMemory}
-use Rattle.ref_moves.specs.Moves.{HasSeen}
-use Rattle.ref_moves.specs.declared.goal.Goal.{Goal}
+use Rattle.run_refs.specs.Moves.{HasSeen}
+use Rattle.run_refs.specs.declared.goal.Goal.{Goal}
 use Rattle.serde_json.specs.Data.{Data}
 use Rattle.upkeep_top.specs.Points.{point}
 use Rattle.upkeep_top.specs.Reports.{move_report}

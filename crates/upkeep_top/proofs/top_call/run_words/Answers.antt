@@ -1,5 +1,5 @@
 use Rattle.std.proofs.Common.{◌∙◌, ap, refl}
-use Rattle.table_publish.specs.declared.publish.Log.{Log}
+use Rattle.commit_publish.specs.declared.publish.Log.{Log}
 use Rattle.upkeep_top.proofs.TaskSteps.{same_points, refused_run, asked_run}
 use Rattle.upkeep_top.proofs.WordLaws.{never_refused}
 use Rattle.upkeep_top.proofs.top_call.run_words.Goals.{in-Ok, in-Err}

@@ -1,0 +1,102 @@
+-- Which places steps of ours leave, and what a log says of them.
+use Rattle.std.specs.Prelude.{◌≡◌, ◌⊎◌, ℕ, zero, suc, Bool, true, false, not, List, [], ◌∷◌, ◌++◌, filter, Result, Ok, Err}
+use Rattle.ice_store.specs.Places.{Parts, same_place}
+use Rattle.ice_store.specs.History.{later}
+use Rattle.ice_store.specs.declared.history.Event.{Event}
+use Rattle.ice_store.specs.declared.history.Past.{Past}
+use Rattle.ice_store.specs.declared.history.Step.{Step}
+use Rattle.ice_store.specs.declared.history.Step.TheVariants.{Create, Append, Seal, Rename, Remove, SyncNames}
+use Rattle.commit_history.specs.Runs.{ours}
+use Rattle.commit_publish.specs.declared.publish.PublishErr.{PublishErr}
+
+abbrev pub without_place : List Parts → Parts → List Parts
+without_place places place = filter (λ p. not (same_place p place)) places
+
+-- a file is renamed to a version: one that counts as committed takes its old place out
+abbrev pub renamed_away : ℕ → List Parts → Parts → List Parts
+renamed_away zero places from = places
+renamed_away (suc count) places from = without_place places from
+
+-- the places after a step: a creation adds its place, and a removal takes it out
+abbrev pub places_after : ℕ → List Parts → Step → List Parts
+places_after count places (Create place) = places ++ place ∷ []
+places_after count places (Append place more) = places
+places_after count places (Seal place) = places
+places_after count places (Rename from to) = renamed_away count places from
+places_after count places (Remove place) = without_place places place
+places_after count places SyncNames = places
+
+abbrev pub one_less : ℕ → ℕ
+one_less zero = zero
+one_less (suc count) = count
+
+-- how many renames still count as committed after a step
+abbrev pub count_after : ℕ → Step → ℕ
+count_after count (Create place) = count
+count_after count (Append place more) = count
+count_after count (Seal place) = count
+count_after count (Rename from to) = one_less count
+count_after count (Remove place) = count
+count_after count SyncNames = count
+
+-- with these places before: the places that steps created and neither removed nor renamed to a committed version, which are the first `count` to which they rename files
+abbrev pub made_by : ℕ → List Parts → List Step → List Parts
+made_by count places [] = places
+made_by count places (step ∷ steps) = made_by (count_after count step) (places_after count places step) steps
+
+-- the place that a failed step names and that wouldn't stand there otherwise
+abbrev pub IsOfStep : Step → List Parts → Type 0
+IsOfStep (Create place) more = more ≡ place ∷ []
+IsOfStep (Append place bytes) more = ⊥
+IsOfStep (Seal place) more = ⊥
+IsOfStep (Rename from to) more = more ≡ to ∷ []
+IsOfStep (Remove place) more = more ≡ place ∷ []
+IsOfStep SyncNames more = ⊥
+
+-- no further place, or one of a step that was tried and failed, where the count of faults rose
+abbrev pub IsMore : Type 0 → (Step → Type 0) → List Parts → Type 0
+IsMore Risen Tried more = (more ≡ []) ⊎ (Risen × ((failed : Step) × Tried failed × IsOfStep failed more))
+
+-- the places that were left: those that the steps made and that still stand under their own names, and a further one only by a failure
+pub record IsLeft (Risen : Type 0) (Tried : Step → Type 0) (count : ℕ) (before : List Parts) (steps : List Step) (left : List Parts) : Type 0 where
+  pub more : List Parts
+  pub is : left ≡ made_by count before steps ++ more
+  pub cause : IsMore Risen Tried more
+
+-- the steps of Us between two moments left these places
+pub record Leaves (Risen : Type 0) (Tried : Step → Type 0) (count : ℕ) (before left : List Parts) (old new : Past) : Type 0 where
+  pub events : List Event
+  pub is : new ≡ later old events
+  pub places : IsLeft Risen Tried count before (ours events) left
+
+-- and the log has them behind those that it had
+pub record Notes (Risen : Type 0) (Tried : Step → Type 0) (count : ℕ) (before : List Parts) (had has : List Parts) (old new : Past) : Type 0 where
+  pub left : List Parts
+  pub noted : has ≡ had ++ left
+  pub leaves : Leaves Risen Tried count before left old new
+
+-- this step was among those of Us between two moments
+pub record Takes (step : Step) (old new : Past) : Type 0 where
+  pub events : List Event
+  pub is : new ≡ later old events
+  pub before : List Step
+  pub after : List Step
+  pub among : ours events ≡ before ++ step ∷ after
+
+-- a rename whose end is unknown took place, and the draft stands in the log; or both of its names stand there
+abbrev pub TellsRename : Parts → Parts → List Parts → List Parts → Past → Past → Type 0
+TellsRename draft target had has old new = ((has ≡ had ++ draft ∷ []) × Takes (Rename draft target) old new) ⊎ (has ≡ had ++ draft ∷ target ∷ [])
+
+-- the steps of a publish that name a file
+abbrev pub IsNaming : Parts → Parts → Step → Type 0
+IsNaming draft target step = (step ≡ Create draft) ⊎ ((step ≡ Rename draft target) ⊎ (step ≡ Remove draft))
+
+-- a draft that may stand
+abbrev pub draft_if : Bool → Parts → List Parts
+draft_if true draft = draft ∷ []
+draft_if false draft = []
+
+-- how many versions a publish commits
+abbrev pub committed_count : Result (Unit {0}) PublishErr → ℕ
+committed_count (Ok u) = 1
+committed_count (Err e) = 0

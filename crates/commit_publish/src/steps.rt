@@ -1,0 +1,164 @@
+//! The pieces of a publish, each of a few store calls.
+ghost use Rattle.std.specs.Prelude.{◌≡◌, ◌≤◌, true, false, [], ℕ, List};
+ghost use Rattle.ice_store.specs.Places.{Parts};
+ghost use Rattle.ice_store.specs.Others.{WhereTold};
+ghost use Rattle.ice_store.specs.Since.{Since};
+ghost use Rattle.commit_history.specs.Mannered.{IsMannered};
+ghost use Rattle.commit_history.specs.Versions.{number_in};
+ghost use Rattle.commit_publish.specs.Stages.{Narrow, NoReach, Creating, AtRest, Aim, Stage, NoFile, HasDraft, IsTaken, At};
+ghost use Rattle.commit_publish.specs.Leaves.{MakeLeaves, FillLeaves, MoveLeaves, DropLeaves, CallRose, Halts};
+
+use ice_store::{Bytes, Made, Manners, Moved, Place, Store, StoreErr};
+
+/// Which bytes are the metadata of a table at a place.
+pub trait Format {
+    ghost reads: { Parts → List ℕ → Type 0 };
+}
+
+/// Where a publish works.
+#[derive(Debug, Drop)]
+pub struct Route {
+    pub table: Place,
+    /// The version file that the new one follows, and its bytes.
+    pub base: Place,
+    pub text: Bytes,
+    /// The new metadata file's own name, before its rename.
+    pub draft: Place,
+    /// The next version place.
+    pub target: Place,
+}
+
+/// What a store call of a publish works on.
+#[derive(Debug, Clone, Copy, PartialEq, Eq)]
+pub enum Call {
+    /// The new metadata file.
+    OnFile,
+    /// The names of the directory.
+    OnNames,
+}
+
+/// A store call that did not do its work.
+#[derive(Debug, Clone, Copy, PartialEq, Eq)]
+pub struct CallErr {
+    pub call: Call,
+    pub cause: StoreErr,
+}
+
+fn on_file(cause: StoreErr) -> CallErr
+    ensures { result ≡ record { call = Call.OnFile; cause = cause } }
+{
+    CallErr {
+        call: Call::OnFile,
+        cause,
+    }
+}
+
+fn on_names(cause: StoreErr) -> CallErr
+    ensures { result ≡ record { call = Call.OnNames; cause = cause } }
+{
+    CallErr {
+        call: Call::OnNames,
+        cause,
+    }
+}
+
+/// Creates the draft; `Exists` where its name is taken.
+pub fn make_draft<F: Format, M: Manners, S: Store<M>>(
+    store: &mut S,
+    route: &Route,
+) -> Result<Made, CallErr>
+    requires mannered { IsMannered (number_in route.now.table) (Narrow F.reads route.now.table) NoReach (M.allows (S.manners store.old)) }
+    requires aim { Aim (number_in route.now.table) route.now.draft route.now.base route.now.target }
+    requires start { WhereTold (S.past store.old) (At (Stage (number_in route.now.table) route.now.base route.now.target Creating NoFile)) }
+    ensures told { Since (S.past store.old) (S.past store.new) (MakeLeaves (number_in route.now.table) (Narrow F.reads route.now.table) NoReach (M.allows (S.manners store.old)) route.now.base route.now.target route.now.draft result) }
+    ensures manners { S.manners store.new ≡ S.manners store.old }
+    ensures cause { CallRose result (S.faults store.old) (S.faults store.new) }
+    ensures later { S.faults store.old ≤ S.faults store.new }
+    ensures halted { Halts result (S.halted store.old) (S.halted store.new) (S.past store.new) }
+{
+    match store.create(&route.draft) {
+        Ok(made) => Ok(made),
+        Err(cause) => Err(on_file(cause)),
+    }
+}
+
+/// Writes and seals the draft, and makes its name durable.
+pub fn fill_draft<F: Format, M: Manners, S: Store<M>>(
+    store: &mut S,
+    route: &Route,
+    bytes: &[u8],
+) -> Result<(), CallErr>
+    requires mannered { IsMannered (number_in route.now.table) (Narrow F.reads route.now.table) NoReach (M.allows (S.manners store.old)) }
+    requires aim { Aim (number_in route.now.table) route.now.draft route.now.base route.now.target }
+    requires start { WhereTold (S.past store.old) (At (Stage (number_in route.now.table) route.now.base route.now.target Creating (HasDraft route.now.draft false []))) }
+    ensures told { Since (S.past store.old) (S.past store.new) (FillLeaves (number_in route.now.table) (Narrow F.reads route.now.table) NoReach (M.allows (S.manners store.old)) route.now.base route.now.target route.now.draft bytes.now result) }
+    ensures manners { S.manners store.new ≡ S.manners store.old }
+    ensures cause { CallRose result (S.faults store.old) (S.faults store.new) }
+    ensures later { S.faults store.old ≤ S.faults store.new }
+    ensures halted { Halts result (S.halted store.old) (S.halted store.new) (S.past store.new) }
+{
+    match store.append(&route.draft, bytes) {
+        Ok(()) => {}
+        Err(cause) => return Err(on_file(cause)),
+    }
+    match store.seal(&route.draft) {
+        Ok(()) => {}
+        Err(cause) => return Err(on_file(cause)),
+    }
+    match store.sync_names() {
+        Ok(()) => Ok(()),
+        Err(cause) => Err(on_names(cause)),
+    }
+}
+
+/// Renames the draft to the target, and makes that durable; `Exists` where the target is taken.
+pub fn move_draft<F: Format, M: Manners, S: Store<M>>(
+    store: &mut S,
+    route: &Route,
+    bytes: &[u8],
+) -> Result<Moved, CallErr>
+    requires mannered { IsMannered (number_in route.now.table) (Narrow F.reads route.now.table) NoReach (M.allows (S.manners store.old)) }
+    requires aim { Aim (number_in route.now.table) route.now.draft route.now.base route.now.target }
+    requires start { WhereTold (S.past store.old) (At (Stage (number_in route.now.table) route.now.base route.now.target AtRest (HasDraft route.now.draft true bytes.now))) }
+    requires reads { F.reads route.now.table bytes.now }
+    ensures told { Since (S.past store.old) (S.past store.new) (MoveLeaves (number_in route.now.table) (Narrow F.reads route.now.table) NoReach (M.allows (S.manners store.old)) route.now.base route.now.text route.now.target route.now.draft bytes.now result) }
+    ensures manners { S.manners store.new ≡ S.manners store.old }
+    ensures cause { CallRose result (S.faults store.old) (S.faults store.new) }
+    ensures later { S.faults store.old ≤ S.faults store.new }
+    ensures halted { Halts result (S.halted store.old) (S.halted store.new) (S.past store.new) }
+{
+    match store.rename_new(&route.draft, &route.target) {
+        Ok(Moved::Done) => {}
+        Ok(Moved::Exists) => return Ok(Moved::Exists),
+        Err(cause) => return Err(on_file(cause)),
+    }
+    match store.sync_names() {
+        Ok(()) => Ok(Moved::Done),
+        Err(cause) => Err(on_names(cause)),
+    }
+}
+
+/// Removes the draft of a publish that met a taken target, and makes that durable.
+pub fn drop_draft<F: Format, M: Manners, S: Store<M>>(
+    store: &mut S,
+    route: &Route,
+    bytes: &[u8],
+) -> Result<(), CallErr>
+    requires mannered { IsMannered (number_in route.now.table) (Narrow F.reads route.now.table) NoReach (M.allows (S.manners store.old)) }
+    requires aim { Aim (number_in route.now.table) route.now.draft route.now.base route.now.target }
+    requires start { WhereTold (S.past store.old) (At (Stage (number_in route.now.table) route.now.base route.now.target AtRest (IsTaken route.now.draft bytes.now route.now.target))) }
+    ensures told { Since (S.past store.old) (S.past store.new) (DropLeaves (number_in route.now.table) (Narrow F.reads route.now.table) NoReach (M.allows (S.manners store.old)) route.now.draft route.now.target result) }
+    ensures manners { S.manners store.new ≡ S.manners store.old }
+    ensures cause { CallRose result (S.faults store.old) (S.faults store.new) }
+    ensures later { S.faults store.old ≤ S.faults store.new }
+    ensures halted { Halts result (S.halted store.old) (S.halted store.new) (S.past store.new) }
+{
+    match store.remove(&route.draft) {
+        Ok(_) => {}
+        Err(cause) => return Err(on_file(cause)),
+    }
+    match store.sync_names() {
+        Ok(()) => Ok(()),
+        Err(cause) => Err(on_names(cause)),
+    }
+}

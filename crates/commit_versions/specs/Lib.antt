@@ -1,0 +1,4 @@
+pub mod Opening
+pub mod Latest
+pub mod Digits
+pub mod Names

@@ -1,5 +1,0 @@
-use Rattle.std.proofs.Common.{length}
-use Rattle.memory_store.proofs.image.+undo_some.Given as goal
-
-abbrev pub decreases-undo_some : goal.decreases-undo_some
-decreases-undo_some l = length l.pending.now

@@ -1,7 +1,0 @@
-use Rattle.std.proofs.Common.{◌≡◌, drop, map}
-use Rattle.serde_json.specs.View.{view}
-use Rattle.metadata_faults.specs.Fields.{has_id}
-use Rattle.metadata_faults.proofs.rules.has_id.Given as goal
-
-abbrev pub invariant-loop-item : goal.invariant-loop-item
-invariant-loop-item l = has_id l.name l.id (map view l.items) ≡ has_id l.name l.id (map view (drop l.item-index l.items))

@@ -1,7 +1,0 @@
-use Rattle.std.proofs.Common.{◌≡◌, drop}
-use Rattle.serde_json.specs.View.{view}
-use Rattle.metadata_faults.specs.Fields.{rules_fault}
-use Rattle.metadata_faults.proofs.rules.rules_fault.Given as goal
-
-abbrev pub invariant-loop-rule : goal.invariant-loop-rule
-invariant-loop-rule l = rules_fault l.rules (view l.tree) ≡ rules_fault (drop l.rule-index l.rules) (view l.tree)

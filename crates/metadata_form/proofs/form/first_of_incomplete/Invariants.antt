@@ -1,0 +1,8 @@
+use Rattle.std.proofs.Common.{◌≡◌, codes}
+use Rattle.serde_json.specs.Data.{null, put}
+use Rattle.serde_json.specs.View.{members_view}
+use Rattle.metadata_form.specs.Form.{members_fault, text_fault}
+use Rattle.metadata_form.proofs.form.first_of_incomplete.Given as goal
+
+abbrev pub invariant-loop-key : goal.invariant-loop-key
+invariant-loop-key l = members_fault text_fault (put (codes "operation") null (members_view l.members.entries)) ≡ members_fault text_fault (put (codes "operation") null (members_view l.key-iterator))

@@ -1,9 +1,0 @@
-use Rattle.table_history.specs.Versions.{number_in}
-use Rattle.table_history.proofs.Acknowledging.{standing_commits, standing_open}
-use Rattle.table_history.proofs.commits_stand.Goals as goal
-
-pub returns-clause-all : goal.returns-clause-all
-returns-clause-all c = standing_commits (number_in c.args.table.now)
-
-pub returns-clause-open_ones : goal.returns-clause-open_ones
-returns-clause-open_ones c = standing_open (number_in c.args.table.now)

@@ -1,7 +1,0 @@
-use Rattle.std.proofs.Common.{◌++◌, ◌∷◌, []}
-use Rattle.table_history.specs.Versions.{number_in, folder}
-use Rattle.table_history.proofs.ListingLaws.{listing_version, inside}
-use Rattle.table_history.proofs.listing_tells.Goals as goal
-
-pub returns : goal.returns
-returns c = listing_version (number_in c.args.table.now) (c.args.table.now ++ folder ∷ []) (inside c.args.table.now)

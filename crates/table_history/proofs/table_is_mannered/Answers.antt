@@ -1,7 +1,0 @@
-use Rattle.table_history.specs.Versions.{number_in}
-use Rattle.table_history.proofs.Numbering.{numbering}
-use Rattle.table_history.proofs.Manners.{table_mannered}
-use Rattle.table_history.proofs.table_is_mannered.Goals as goal
-
-pub returns : goal.returns
-returns g c = table_mannered (number_in c.args.table.now) g.R.Reading.good g.R.Reading.reached (numbering c.args.table.now) g.R.Reading.localized

@@ -1,4 +1,0 @@
-pub mod DigitLaws
-pub mod NumberLaws
-pub mod NameLaws
-pub mod SlashLaws

@@ -1,4 +1,0 @@
-pub mod OpenLaws
-pub mod LatestLaws
-pub mod BeyondLaws
-pub mod FirstPlace
