@@ -5,8 +5,8 @@ use Rattle.ice_store.specs.Files.{find, renamed}
 use Rattle.ice_store.specs.History.{IsImage, image, durable, settled, names_by, undone}
 use Rattle.ice_store.specs.Calls.{ChangesName}
 use Rattle.ice_store.proofs.FileLaws.{by_test, find_head, find_tail, find_without_other, find_put_other}
-use Rattle.ice_store.specs.declared.history.Change.{Change}
-use Rattle.ice_store.specs.declared.history.Change.TheVariants.{Created, Renamed, Removed}
+use Rattle.ice_store.specs.declared.history.NameChange.{NameChange}
+use Rattle.ice_store.specs.declared.history.NameChange.TheVariants.{Created, Renamed, Removed}
 use Rattle.ice_store.specs.declared.history.FileRec.{FileRec}
 use Rattle.ice_store.specs.declared.history.Held.{Held}
 use Rattle.commit_history.specs.Tables.{table, sealed_bytes, GoodBy, ReachBy, Whole, InReach, IsOutside, IsLocal, IsNumbering}
@@ -64,10 +64,10 @@ module _ (number : Parts → ℕ) (Good : GoodBy) (Reached : ReachBy) where
     bytes = λ p x counts at. ap sealed_bytes (same p counts) ∙ at;
   }
 
-  abbrev pub Quiet : List Held → Change → Type 0
+  abbrev pub Quiet : List Held → NameChange → Type 0
   Quiet fs c = (p : Parts) → Counts fs p → ChangesName c p → ⊥
 
-  undone_other : (fs hs : List Held) (c : Change) (p : Parts) → (IsFreshChange number Reached fs c ⊎ IsOldChange number Reached fs c) → Counts fs p → find (undone c hs) p ≡ find hs p
+  undone_other : (fs hs : List Held) (c : NameChange) (p : Parts) → (IsFreshChange number Reached fs c ⊎ IsOldChange number Reached fs c) → Counts fs p → find (undone c hs) p ≡ find hs p
   undone_other fs hs (Created q) p (inl out) counts = find_without_other hs q p (counts_not_out fs p q counts out)
   undone_other fs hs (Created q) p (inr no_) counts = absurd no_
   undone_other fs hs (Renamed q r) p (inl no_) counts = absurd no_
@@ -75,8 +75,8 @@ module _ (number : Parts → ℕ) (Good : GoodBy) (Reached : ReachBy) where
   undone_other fs hs (Removed h) p (inl no_) counts = absurd no_
   undone_other fs hs (Removed h) p (inr out) counts = find_put_other h hs p (counts_not_out fs p h.place counts out)
 
-  module _ (fs : List Held) (Of : Change → Type 0) (of : (c : Change) → Of c → IsFreshChange number Reached fs c ⊎ IsOldChange number Reached fs c) where
-    undone_alike : (done : List Bool) (cs : List Change) (hs : List Held) → Each Of cs → (p : Parts) → Counts fs p → find (names_by done cs hs) p ≡ find hs p
+  module _ (fs : List Held) (Of : NameChange → Type 0) (of : (c : NameChange) → Of c → IsFreshChange number Reached fs c ⊎ IsOldChange number Reached fs c) where
+    undone_alike : (done : List Bool) (cs : List NameChange) (hs : List Held) → Each Of cs → (p : Parts) → Counts fs p → find (names_by done cs hs) p ≡ find hs p
     undone_alike done [] hs each p counts = refl
     undone_alike [] (c ∷ cs) hs each p counts = undone_other fs (names_by [] cs hs) c p (of c each.0) counts ∙ undone_alike [] cs hs each.1 p counts
     undone_alike (true ∷ ds) (c ∷ cs) hs each p counts = undone_alike ds cs hs each.1 p counts
@@ -128,5 +128,5 @@ module _ (number : Parts → ℕ) (Good : GoodBy) (Reached : ReachBy) where
           (λ p counts. undone_alike s.disk.files (IsFreshChange number Reached s.disk.files) (λ c o. inl o) image.0 s.disk.pending s.disk.files fresh p counts) image.2
       | inr (inl old) ↦ now_reopens s steady m image.1 (names_by image.0 s.disk.pending s.disk.files)
           (λ p counts. undone_alike s.disk.files (IsOldChange number Reached s.disk.files) (λ c o. inr o) image.0 s.disk.pending s.disk.files old p counts) image.2
-      | inr (inr one) ↦ one_by s steady m image.1 one image.0 (image.2 ∙ ap (λ (cs : List Change). map (settled image.1) (names_by image.0 cs s.disk.files)) one.pending)
+      | inr (inr one) ↦ one_by s steady m image.1 one image.0 (image.2 ∙ ap (λ (cs : List NameChange). map (settled image.1) (names_by image.0 cs s.disk.files)) one.pending)
     ]

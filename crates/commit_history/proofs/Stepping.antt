@@ -4,8 +4,8 @@ use Rattle.ice_store.specs.Places.{Parts, same_place}
 use Rattle.ice_store.specs.Files.{find, is_named, renamed, moved, put, without, changed}
 use Rattle.ice_store.specs.History.{new_file, appended, sealed, removal}
 use Rattle.ice_store.proofs.FileLaws.{by_test, place_decides, same_itself, find_without_other, find_put_other, find_changed_same, find_changed_other, find_renamed_to, find_renamed_from, find_renamed_other}
-use Rattle.ice_store.specs.declared.history.Change.{Change}
-use Rattle.ice_store.specs.declared.history.Change.TheVariants.{Created, Renamed, Removed}
+use Rattle.ice_store.specs.declared.history.NameChange.{NameChange}
+use Rattle.ice_store.specs.declared.history.NameChange.TheVariants.{Created, Renamed, Removed}
 use Rattle.ice_store.specs.declared.history.Event.{Event}
 use Rattle.ice_store.specs.declared.history.Held.{Held}
 use Rattle.ice_store.specs.declared.history.Step.{Step}
@@ -24,11 +24,11 @@ us step t = record { who = Us; step = step; ms = t }
 abbrev pub them : Step → ℕ → Event
 them step t = record { who = Them; step = step; ms = t }
 
-pub each_map : (P Q : Change → Type 0) → ((c : Change) → P c → Q c) → (cs : List Change) → Each P cs → Each Q cs
+pub each_map : (P Q : NameChange → Type 0) → ((c : NameChange) → P c → Q c) → (cs : List NameChange) → Each P cs → Each Q cs
 each_map P Q f [] each = tt
 each_map P Q f (c ∷ cs) each = (f c each.0, each_map P Q f cs each.1)
 
-pub each_push : (P : Change → Type 0) (cs : List Change) (c : Change) → Each P cs → P c → Each P (cs ++ c ∷ [])
+pub each_push : (P : NameChange → Type 0) (cs : List NameChange) (c : NameChange) → Each P cs → P c → Each P (cs ++ c ∷ [])
 each_push P [] c each one = (one, tt)
 each_push P (d ∷ ds) c each one = (each.0, each_push P ds c each.1 one)
 
@@ -96,18 +96,18 @@ module _ (number : Parts → ℕ) (Good : GoodBy) (Reached : ReachBy) (ruled : I
       outside_on : (p : Parts) → IsOutside number Reached fs p → IsOutside number Reached gs p
       outside_on p out = still_outside number Reached fs gs agrees Good ruled localized steady.whole p out
 
-      fresh_on : (cs : List Change) → Each (IsFreshChange number Reached fs) cs → Each (IsFreshChange number Reached gs) cs
+      fresh_on : (cs : List NameChange) → Each (IsFreshChange number Reached fs) cs → Each (IsFreshChange number Reached gs) cs
       fresh_on cs each = each_map (IsFreshChange number Reached fs) (IsFreshChange number Reached gs) one cs each
         where
-          one : (c : Change) → IsFreshChange number Reached fs c → IsFreshChange number Reached gs c
+          one : (c : NameChange) → IsFreshChange number Reached fs c → IsFreshChange number Reached gs c
           one (Created p) out = outside_on p out
           one (Renamed p q) out = absurd out
           one (Removed h) out = absurd out
 
-      old_on : (cs : List Change) → Each (IsOldChange number Reached fs) cs → Each (IsOldChange number Reached gs) cs
+      old_on : (cs : List NameChange) → Each (IsOldChange number Reached fs) cs → Each (IsOldChange number Reached gs) cs
       old_on cs each = each_map (IsOldChange number Reached fs) (IsOldChange number Reached gs) one cs each
         where
-          one : (c : Change) → IsOldChange number Reached fs c → IsOldChange number Reached gs c
+          one : (c : NameChange) → IsOldChange number Reached fs c → IsOldChange number Reached gs c
           one (Created p) out = absurd out
           one (Renamed p q) out = absurd out
           one (Removed h) out = outside_on h.place out
@@ -150,7 +150,7 @@ module _ (number : Parts → ℕ) (Good : GoodBy) (Reached : ReachBy) (ruled : I
       them_seal = record { whole = whole_on (changed sealed fs p) seal_a; last = last_them (changed sealed fs p) seal_a; form = inl tt }
 
     removal_old : (p : Parts) → IsOutside number Reached fs p → (gs : List Held) (agrees : Agrees number Reached fs gs) (o : Option Held) → find fs p ≡ o → Each (IsOldChange number Reached gs) s.disk.pending → Each (IsOldChange number Reached gs) (s.disk.pending ++ removal o)
-    removal_old p out gs agrees None is each = subst (λ (l : List Change). Each (IsOldChange number Reached gs) l) (sym (append-nil s.disk.pending)) each
+    removal_old p out gs agrees None is each = subst (λ (l : List NameChange). Each (IsOldChange number Reached gs) l) (sym (append-nil s.disk.pending)) each
     removal_old p out gs agrees (Some h) is each = each_push (IsOldChange number Reached gs) s.disk.pending (Removed h) each
         (subst (λ (q : Parts). IsOutside number Reached gs q) (sym (find_place fs p h is)) (outside_on gs agrees p out))
 
@@ -225,7 +225,7 @@ module _ (number : Parts → ℕ) (Good : GoodBy) (Reached : ReachBy) (ruled : I
           form = inr (inr (record {
             from = p;
             to = q;
-            pending = ap (λ (cs : List Change). cs ++ Renamed p q ∷ []) at_rest;
+            pending = ap (λ (cs : List NameChange). cs ++ Renamed p q ∷ []) at_rest;
             whole = whole_on (renamed q p gs) back_agrees;
             before = s.unacknowledged;
             is = ap (λ (l : Tables). s.unacknowledged ++ l) one_commit;

@@ -3,8 +3,8 @@ use Rattle.std.specs.Prelude.{◌≡◌, ◌⊎◌, ℕ, List, [], ◌∷◌, �
 use Rattle.ice_store.specs.Places.{Parts}
 use Rattle.ice_store.specs.Files.{renamed}
 use Rattle.ice_store.specs.History.{later}
-use Rattle.ice_store.specs.declared.history.Change.{Change}
-use Rattle.ice_store.specs.declared.history.Change.TheVariants.{Created, Renamed, Removed}
+use Rattle.ice_store.specs.declared.history.NameChange.{NameChange}
+use Rattle.ice_store.specs.declared.history.NameChange.TheVariants.{Created, Renamed, Removed}
 use Rattle.ice_store.specs.declared.history.Held.{Held}
 use Rattle.ice_store.specs.declared.history.Past.{Past}
 use Rattle.ice_store.specs.declared.history.Step.{Step}
@@ -13,18 +13,18 @@ use Rattle.commit_history.specs.Tables.{GoodBy, ReachBy, Whole, table, IsOutside
 use Rattle.commit_history.specs.Commits.{Standing, Tables, IsLast, standing}
 
 -- a creation of a place that is neither a version place nor reached
-abbrev pub IsFreshChange : (Parts → ℕ) → ReachBy → List Held → Change → Type 0
+abbrev pub IsFreshChange : (Parts → ℕ) → ReachBy → List Held → NameChange → Type 0
 IsFreshChange number Reached files (Created place) = IsOutside number Reached files place
 IsFreshChange number Reached files (Renamed from to) = ⊥
 IsFreshChange number Reached files (Removed held) = ⊥
 
 -- a removal of such a place
-abbrev pub IsOldChange : (Parts → ℕ) → ReachBy → List Held → Change → Type 0
+abbrev pub IsOldChange : (Parts → ℕ) → ReachBy → List Held → NameChange → Type 0
 IsOldChange number Reached files (Created place) = ⊥
 IsOldChange number Reached files (Renamed from to) = ⊥
 IsOldChange number Reached files (Removed held) = IsOutside number Reached files held.place
 
-abbrev pub Each : (Change → Type 0) → List Change → Type 0
+abbrev pub Each : (NameChange → Type 0) → List NameChange → Type 0
 Each P [] = Unit {0}
 Each P (change ∷ changes) = P change × Each P changes
 

@@ -21,9 +21,9 @@ use Rattle.serde_json.specs.Find.{as_str}
 use Rattle.table_metadata.specs.View.{location_of}
 use Rattle.commit_history.specs.Mannered.{IsMannered}
 use Rattle.commit_publish.proofs.Narrow.{work, narrow_local}
-use Rattle.commit_publish.specs.Stages.{Narrow, NoReach, Creating, Aim, Stage, NoFile, IsLost, At as Stands, Exactly, Anything, Partly, Reaching, draft_plan}
+use Rattle.commit_publish.specs.Stages.{Narrow, NoReach, Creating, Aim, Stage, NoFile, IsLost, InState, Exactly, Anything, Partly, Reaching, draft_plan}
 use Rattle.commit_publish.specs.Leaves.{PublishLeaves}
-use Rattle.commit_publish.specs.declared.steps.Call.TheVariants.{OnFile, OnNames}
+use Rattle.commit_publish.specs.declared.steps.FailedCall.TheVariants.{OnFile, OnNames}
 use Rattle.commit_publish.specs.declared.publish.PublishErr.{PublishErr}
 use Rattle.commit_publish.specs.declared.publish.PublishErr.TheVariants as publishes
 use Rattle.commit_publish.proofs.CallLaws as calls
@@ -35,7 +35,7 @@ use Rattle.commit_protocol.specs.Causes.{CommitRose}
 use Rattle.commit_protocol.specs.Written.{next_tree, IsWritten, IsUnwritten, commit_error_by, PublishedLeaves, CommitLeft, version_at}
 use Rattle.commit_publish.specs.Logs.{LeftBy}
 use Rattle.commit_protocol.specs.declared.opening.At.{At}
-use Rattle.commit_protocol.specs.declared.commit.Written.{Written}
+use Rattle.commit_protocol.specs.declared.committing.Written.{Written}
 use Rattle.commit_protocol.specs.declared.errors.AttemptErr.{AttemptErr}
 use Rattle.commit_protocol.specs.declared.errors.AttemptErr.TheVariants as attempts
 use Rattle.commit_protocol.specs.declared.errors.CommitErr.{CommitErr}
@@ -69,8 +69,8 @@ module _ (x : Work) (K : Past → Type 0) (old mid new : Past) (idle : RR x (Exa
 
   pub publish_after : (r : Result (Unit {0}) PublishErr) → PublishLeaves x.number x.Good x.Reached x.allows x.base x.text x.target x.draft x.bytes r mid new → PublishLeaves x.number x.Good x.Reached x.allows x.base x.text x.target x.draft x.bytes r old new
   publish_after (Ok u) run = calls.join_published x old mid new [] (draft_plan x.draft x.bytes ++ (Rename x.draft x.target ∷ SyncNames ∷ [])) K idle run
-  publish_after (Err publishes.NameTaken) run = behind (Exactly []) (Stands (λ d. is_named d.files x.draft ≡ true)) run
-  publish_after (Err publishes.Contended) run = behind (Exactly (draft_plan x.draft x.bytes ++ (Remove x.draft ∷ SyncNames ∷ []))) (Stands (IsLost x.target)) run
+  publish_after (Err publishes.NameTaken) run = behind (Exactly []) (InState (λ d. is_named d.files x.draft ≡ true)) run
+  publish_after (Err publishes.Contended) run = behind (Exactly (draft_plan x.draft x.bytes ++ (Remove x.draft ∷ SyncNames ∷ []))) (InState (IsLost x.target)) run
   publish_after (Err publishes.Unknown) run = behind (Reaching x.draft x.bytes x.target) Anything run
   publish_after (Err (publishes.Fault call)) run = behind (Partly x.draft x.bytes) Anything run
   publish_after (Err publishes.NoMemory) run = behind (λ l. Partly x.draft x.bytes l ⊎ Reaching x.draft x.bytes x.target l) Anything run
@@ -174,7 +174,7 @@ module _ (table : Parts) (allows : Past → Step → Type 0) (mannered : IsManne
     Leaves = AttemptLeaves number Good NoReach allows successor same refuses seen Drawn table now at
 
     abbrev pub KO : Past → Type 0
-    KO = Stands (OpenStage number at.place)
+    KO = InState (OpenStage number at.place)
 
     pub same_by : (old new : Past) → HasVersionLimit (view at.meta) → same (view at.meta) → seen (view at.meta) → Idle_ KO old new → Leaves (Ok (Same at.version)) old new
     same_by old new limit is saw run = (refl, limit, is, saw, forget KO old new run)

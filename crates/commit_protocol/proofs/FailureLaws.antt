@@ -9,7 +9,7 @@ use Rattle.ice_store.specs.declared.faults.ReadErr.TheVariants.{StoreFault}
 use Rattle.commit_publish.specs.Left.{TellsRename}
 use Rattle.commit_publish.specs.Logs.{LeftBy}
 use Rattle.commit_publish.proofs.LeftLaws.{rename_behind}
-use Rattle.commit_publish.specs.declared.steps.Call.TheVariants.{OnFile, OnNames}
+use Rattle.commit_publish.specs.declared.steps.FailedCall.TheVariants.{OnFile, OnNames}
 use Rattle.commit_publish.specs.declared.publish.PublishErr.{PublishErr}
 use Rattle.commit_publish.specs.declared.publish.PublishErr.TheVariants as publishes
 use Rattle.commit_versions.specs.declared.types.OpenErr.{OpenErr}

@@ -8,7 +8,7 @@ use Rattle.ice_store.specs.declared.faults.ReadErr.TheVariants.{Missing, Damaged
 use Rattle.commit_history.specs.Tables.{GoodBy, ReachBy}
 use Rattle.commit_history.specs.Runs.{Ran}
 use Rattle.commit_history.proofs.Running.{ran_turned}
-use Rattle.commit_publish.specs.Stages.{Exactly, Anything, At as Stands}
+use Rattle.commit_publish.specs.Stages.{Exactly, Anything, InState}
 use Rattle.commit_versions.specs.Opening.{OpenStage, IsOpened, OpenLeaves}
 use Rattle.commit_versions.specs.Latest.{IsBaseNumber}
 use Rattle.commit_versions.specs.declared.types.Opened.{Opened}
@@ -27,7 +27,7 @@ module _ (number : Parts → ℕ) (Good : GoodBy) (Reached : ReachBy) (allows : 
     }
 
     forgotten : Ran number Good Reached allows (Exactly []) Anything old now
-    forgotten = ran_turned number Good Reached allows (Exactly []) (Exactly []) (Stands (OpenStage number o.place)) Anything old now opened.listed.run (λ l e. e) (λ h. tt)
+    forgotten = ran_turned number Good Reached allows (Exactly []) (Exactly []) (InState (OpenStage number o.place)) Anything old now opened.listed.run (λ l e. e) (λ h. tt)
 
     pub table_by : (r : Result At OpenErr) → ReadsTable table o r → TableLeaves number Good Reached allows table r old now
     table_by (Ok at) r = at_of at r

@@ -6,7 +6,7 @@ use Rattle.ice_store.specs.Places.{Parts}
 use Rattle.ice_store.specs.History.{Disk, replay, later}
 use Rattle.ice_store.proofs.HistoryLaws.{later-later}
 use Rattle.ice_store.proofs.OthersLaws.{later-nil}
-use Rattle.ice_store.specs.declared.history.Change.{Change}
+use Rattle.ice_store.specs.declared.history.NameChange.{NameChange}
 use Rattle.ice_store.specs.declared.history.Event.{Event}
 use Rattle.ice_store.specs.declared.history.Past.{Past}
 use Rattle.ice_store.specs.declared.history.Step.{Step}
@@ -50,7 +50,7 @@ module _ (table : Parts) (allows : Past → Step → Type 0) (Made : List Step �
     steady = record {
       whole = on_disk (λ d. Whole (number_in table) (Narrow IsTableOf table) d.files) whole.whole;
       last = on_disk (λ d. IsLast ((standing (number_in table) old).acknowledged ++ (standing (number_in table) old).unacknowledged) (table_in (number_in table) d.files)) whole.last;
-      form = inl (subst (λ (cs : List Change). Each (IsFreshChange (number_in table) NoReach (standing (number_in table) old).disk.files) cs) (sym (on_disk (λ d. d.pending ≡ []) whole.at_rest)) tt);
+      form = inl (subst (λ (cs : List NameChange). Each (IsFreshChange (number_in table) NoReach (standing (number_in table) old).disk.files) cs) (sym (on_disk (λ d. d.pending ≡ []) whole.at_rest)) tt);
     }
 
     along : (new : Past) → (run : Steps old new) → (n : ℕ) → IsSafe (number_in table) (Narrow IsTableOf table) NoReach (later old (take n run.events))

@@ -12,7 +12,7 @@ use Rattle.ice_store.specs.declared.faults.ReadErr.TheVariants.{Missing, Damaged
 use Rattle.commit_history.specs.Tables.{GoodBy, ReachBy, version}
 use Rattle.commit_history.specs.Runs.{Ran}
 use Rattle.commit_history.proofs.Running.{ran_then, ran_turned}
-use Rattle.commit_publish.specs.Stages.{Anything, Exactly, At as Stands, IsLost, IsBased, IsPublished, Partly, Reaching, draft_plan}
+use Rattle.commit_publish.specs.Stages.{Anything, Exactly, InState, IsLost, IsBased, IsPublished, Partly, Reaching, draft_plan}
 use Rattle.commit_publish.specs.Leaves.{PublishLeaves}
 use Rattle.commit_publish.specs.declared.publish.PublishErr.{PublishErr}
 use Rattle.commit_publish.specs.declared.publish.PublishErr.TheVariants as publishes
@@ -49,13 +49,13 @@ module _ (number : Parts → ℕ) (Good : GoodBy) (Reached : ReachBy) (allows : 
   still K old new run = ran_turned number Good Reached allows (Exactly []) (Exactly []) K Anything old new run (λ l e. e) (λ k. tt)
 
   pub opened_idle : (base : Parts) (text : List ℕ) (old now : Past) → IsOpened number Good Reached allows base text old now → Idle old now
-  opened_idle base text old now o = still (Stands (OpenStage number base)) old now o.listed.run
+  opened_idle base text old now o = still (InState (OpenStage number base)) old now o.listed.run
 
   read_err_idle : (e : ReadErr) (old now : Past) → ReadErrLeaves number Good Reached allows e old now → Idle old now
-  read_err_idle (Missing place) old now r = still (Stands (λ d. is_named d.files place ≡ false)) old now r.run
+  read_err_idle (Missing place) old now r = still (InState (λ d. is_named d.files place ≡ false)) old now r.run
   read_err_idle (Damaged place at) old now r = absurd r
-  read_err_idle (Unsupported place VersionNumber) old now r = still (Stands (λ d. IsBeyond number place d.files)) old now r
-  read_err_idle (Unsupported place FileBytes) old now r = still (Stands (λ d. IsLong place d.files)) old now r.run
+  read_err_idle (Unsupported place VersionNumber) old now r = still (InState (λ d. IsBeyond number place d.files)) old now r
+  read_err_idle (Unsupported place FileBytes) old now r = still (InState (λ d. IsLong place d.files)) old now r.run
   read_err_idle (Unsupported place Codec) old now r = absurd r
   read_err_idle (Unsupported place FormatVersion) old now r = absurd r
   read_err_idle (Unsupported place Transform) old now r = absurd r
@@ -70,7 +70,7 @@ module _ (number : Parts → ℕ) (Good : GoodBy) (Reached : ReachBy) (allows : 
 
   -- an opening takes no step of ours
   pub open_err_idle : (table : Parts) (e : OpenErr) (old now : Past) → OpenErrLeaves number Good Reached allows table e old now → Idle old now
-  open_err_idle table (NoTable place) old now r = still (Stands (λ d. version number d.files ≡ 0)) old now r.1
+  open_err_idle table (NoTable place) old now r = still (InState (λ d. version number d.files ≡ 0)) old now r.1
   open_err_idle table (LocationDiffers place location) old now r = opened_idle r.1.0 r.1.1.text old now r.1.1.opened
   open_err_idle table (Read (Missing place)) old now r = read_err_idle (Missing place) old now r
   open_err_idle table (Read (Damaged place at)) old now r = opened_idle place r.text old now r.opened
@@ -81,8 +81,8 @@ module _ (number : Parts → ℕ) (Good : GoodBy) (Reached : ReachBy) (allows : 
 
   pub publish_steps : (base : Parts) (text : List ℕ) (target draft : Parts) (bytes : List ℕ) (r : Result (Unit {0}) PublishErr) (old new : Past) → PublishLeaves number Good Reached allows base text target draft bytes r old new → Steps old new
   publish_steps base text target draft bytes (Ok u) old new run = some (Exactly (draft_plan draft bytes ++ (Rename draft target ∷ SyncNames ∷ []))) (IsPublished number text bytes (IsBased number Good Reached base text old)) old new run
-  publish_steps base text target draft bytes (Err publishes.NameTaken) old new run = some (Exactly []) (Stands (λ d. is_named d.files draft ≡ true)) old new run
-  publish_steps base text target draft bytes (Err publishes.Contended) old new run = some (Exactly (draft_plan draft bytes ++ (Remove draft ∷ SyncNames ∷ []))) (Stands (IsLost target)) old new run
+  publish_steps base text target draft bytes (Err publishes.NameTaken) old new run = some (Exactly []) (InState (λ d. is_named d.files draft ≡ true)) old new run
+  publish_steps base text target draft bytes (Err publishes.Contended) old new run = some (Exactly (draft_plan draft bytes ++ (Remove draft ∷ SyncNames ∷ []))) (InState (IsLost target)) old new run
   publish_steps base text target draft bytes (Err publishes.Unknown) old new run = some (Reaching draft bytes target) Anything old new run
   publish_steps base text target draft bytes (Err (publishes.Fault call)) old new run = some (Partly draft bytes) Anything old new run
   publish_steps base text target draft bytes (Err publishes.NoMemory) old new run = some (λ l. Partly draft bytes l ⊎ Reaching draft bytes target l) Anything old new run

@@ -16,7 +16,7 @@ use Rattle.commit_history.specs.Tables.{GoodBy, ReachBy, version}
 use Rattle.commit_history.specs.Versions.{number_in}
 use Rattle.commit_history.specs.Runs.{Ran}
 use Rattle.table_metadata.specs.Edits.{HasVersionLimit}
-use Rattle.commit_publish.specs.Stages.{Exactly, Anything, IsLost, At as Stands, draft_plan}
+use Rattle.commit_publish.specs.Stages.{Exactly, Anything, IsLost, InState, draft_plan}
 use Rattle.commit_versions.specs.Opening.{OpenStage, FileIs, IsLong, IsBeyond, IsOpened, Listed, ReadErrLeaves, file_limit}
 use Rattle.commit_versions.specs.declared.types.OpenErr.{OpenErr}
 use Rattle.commit_versions.specs.declared.types.OpenErr.TheVariants.{NoTable, LocationDiffers, Read}
@@ -67,7 +67,7 @@ module _ (table : Parts) (Good : GoodBy) (Reached : ReachBy) (allows : Past → 
 
   module _ (base : Parts) (text : List ℕ) (old now : Past) (o : IsOpened number Good Reached allows base text old now) where
     abbrev pub KO : Past → Type 0
-    KO = Stands (OpenStage number base)
+    KO = InState (OpenStage number base)
 
     pub still_open : now ≡ old
     still_open = same KO old now o.listed.run
@@ -83,18 +83,18 @@ module _ (table : Parts) (Good : GoodBy) (Reached : ReachBy) (allows : Past → 
       let file = opened_file at.place at.text old now a.opened in
       record { file = record { is_last = file.is_last ∙ a.numbers.is; numbers = a.numbers; file = file.file }; short = a.opened.short; metadata = a.metadata }
 
-  overlong : (place : Parts) (old now : Past) → Listed number Good Reached allows place (Stands (λ d. IsLong place d.files)) old now → IsOverlong table (replay old).files place
+  overlong : (place : Parts) (old now : Past) → Listed number Good Reached allows place (InState (λ d. IsLong place d.files)) old now → IsOverlong table (replay old).files place
   overlong place old now l =
-      let it = held (Stands (λ d. IsLong place d.files)) old now l.run in
-      record { last = number place; bytes = it.file.bytes; file = last_file place (Stands (λ d. IsLong place d.files)) old now l it.file.bytes (record { file = it.file; stands = it.stands; bytes_is = refl }); long = it.long }
+      let it = held (InState (λ d. IsLong place d.files)) old now l.run in
+      record { last = number place; bytes = it.file.bytes; file = last_file place (InState (λ d. IsLong place d.files)) old now l it.file.bytes (record { file = it.file; stands = it.stands; bytes_is = refl }); long = it.long }
 
   -- nothing moved, and the answer has its cause
   abbrev pub Answered : Result At OpenErr → Past → Past → Type 0
   Answered r old now = (now ≡ old) × OpenVerdict table (replay old).files r
 
   limit_answered : (place : Parts) (what : What) (old now : Past) → ReadErrLeaves number Good Reached allows (Unsupported place what) old now → (now ≡ old) × LimitVerdict table (replay old).files place what
-  limit_answered place VersionNumber old now r = let K = Stands (λ d. IsBeyond number place d.files) in (same K old now r, held K old now r)
-  limit_answered place FileBytes old now r = (same (Stands (λ d. IsLong place d.files)) old now r.run, overlong place old now r)
+  limit_answered place VersionNumber old now r = let K = InState (λ d. IsBeyond number place d.files) in (same K old now r, held K old now r)
+  limit_answered place FileBytes old now r = (same (InState (λ d. IsLong place d.files)) old now r.run, overlong place old now r)
   limit_answered place Codec old now r = absurd r
   limit_answered place FormatVersion old now r = absurd r
   limit_answered place Transform old now r = absurd r
@@ -106,11 +106,11 @@ module _ (table : Parts) (Good : GoodBy) (Reached : ReachBy) (allows : Past → 
   limit_answered place Sequence old now r = absurd r
 
   err_answered : (e : OpenErr) (old now : Past) → OpenErrLeaves number Good Reached allows table e old now → Answered (Err e) old now
-  err_answered (NoTable place) old now r = let K = Stands (λ d. version number d.files ≡ 0) in (same K old now r.1, (r.0, held K old now r.1))
+  err_answered (NoTable place) old now r = let K = InState (λ d. version number d.files ≡ 0) in (same K old now r.1, (r.0, held K old now r.1))
   err_answered (LocationDiffers place location) old now r =
       let h = r.1.1 in
       (still_open r.1.0 h.text old now h.opened, (r.0, record { place = r.1.0; last = number r.1.0; bytes = h.text; file = opened_file r.1.0 h.text old now h.opened; short = h.opened.short; holds = h.holds }))
-  err_answered (Read (Missing place)) old now r = absurd (missing place (Stands (λ d. is_named d.files place ≡ false)) old now r (λ k. k))
+  err_answered (Read (Missing place)) old now r = absurd (missing place (InState (λ d. is_named d.files place ≡ false)) old now r (λ k. k))
   err_answered (Read (Damaged place at)) old now r = (still_open place r.text old now r.opened, has_last place _ old now r)
   err_answered (Read (Unsupported place what)) old now (inl r) = let a = limit_answered place what old now r in (a.0, inl a.1)
   err_answered (Read (Unsupported place what)) old now (inr r) = (still_open place r.text old now r.opened, inr (has_last place _ old now r))
@@ -153,7 +153,7 @@ module _ (table : Parts) (Good : GoodBy) (Reached : ReachBy) (allows : Past → 
           subst (λ (p : Past). is_named (replay p).files draft ≡ false) same_mid it
 
       -- the target of a publish can't be taken
-      lost : (d : Drafted Drawn successor table number now_ms at) → Ran number Good Reached allows (Exactly (draft_plan d.draft d.bytes ++ (Remove d.draft ∷ SyncNames ∷ []))) (Stands (IsLost d.target)) mid new → ⊥
+      lost : (d : Drafted Drawn successor table number now_ms at) → Ran number Good Reached allows (Exactly (draft_plan d.draft d.bytes ++ (Remove d.draft ∷ SyncNames ∷ []))) (InState (IsLost d.target)) mid new → ⊥
       lost d run =
           let file = opened_file at.place at.text old mid opened.opened in
           let above : version number (replay mid).files < number d.target = subst (λ (p : Past). version number (replay p).files < number d.target) (sym same_mid) (omega (arith, file.is_last, d.aim.next)) in
@@ -190,7 +190,7 @@ module _ (table : Parts) (Good : GoodBy) (Reached : ReachBy) (allows : Past → 
       attempt_ends (Err (Attempt (attempts.NameTaken place))) (inl a) = let r = refused (attempts.NameTaken place) a in (r.0, on_base _ a.limit (inl a.refuses_it))
       attempt_ends (Err (Attempt (attempts.NameTaken place))) (inr a) =
           let d = a.drafted in
-          let K = Stands (λ e. is_named e.files d.draft ≡ true) in
+          let K = InState (λ e. is_named e.files d.draft ≡ true) in
           let named : is_named (replay old).files d.draft ≡ true = subst (λ (p : Past). is_named (replay p).files d.draft ≡ true) same_mid (held K mid new a.left) in
           let draws_place = subst (λ (p : Parts). Draws IsShort at.version (view at.meta) p) (sym a.place_is) (draws d) in
           (same K mid new a.left ∙ same_mid, on_base _ a.limit (inr (draws_place, subst (λ (p : Parts). is_named (replay old).files p ≡ true) (sym a.place_is) named)))

@@ -20,8 +20,8 @@ use Rattle.commit_versions.specs.Names.{version_text_of, version_name, draft_nam
 use Rattle.commit_history.specs.Versions.{folder}
 use Rattle.serde_json.specs.Written.{compact_text}
 use Rattle.commit_publish.specs.Leaves.{PublishLeaves}
-use Rattle.commit_publish.specs.declared.steps.Call.{Call}
-use Rattle.commit_publish.specs.declared.steps.Call.TheVariants.{OnFile, OnNames}
+use Rattle.commit_publish.specs.declared.steps.FailedCall.{FailedCall}
+use Rattle.commit_publish.specs.declared.steps.FailedCall.TheVariants.{OnFile, OnNames}
 use Rattle.commit_publish.specs.declared.publish.PublishErr.{PublishErr}
 use Rattle.commit_publish.specs.declared.publish.PublishErr.TheVariants as PublishErr_
 use Rattle.commit_publish.specs.declared.publish.PublishErr.TheVariants.{NameTaken, Fault, NoMemory}
@@ -89,7 +89,7 @@ limit_path = codes "properties.write.metadata.previous-versions-max"
 abbrev pub TellsLimit : Parts → CommitErr → Type 0
 TellsLimit place e = (e ≡ Attempt (attempts.Read (Damaged place (Path limit_path)))) ⊎ (e ≡ Attempt (attempts.Read Memory))
 
-abbrev pub faulty_place : Call → Parts → Parts → Parts
+abbrev pub faulty_place : FailedCall → Parts → Parts → Parts
 faulty_place OnFile draft table = draft
 faulty_place OnNames draft table = table
 
@@ -105,7 +105,7 @@ module _ (number : Parts → ℕ) (Good : GoodBy) (Reached : ReachBy) (allows : 
       pub left : PublishLeaves number Good Reached allows at.place at.text drafted.target drafted.draft drafted.bytes result old new
 
     pub record FaultBy (at : At) (place : Parts) (old new : Past) : Type 0 where
-      pub call : Call
+      pub call : FailedCall
       pub drafted : Drafted Drawn successor table number now at
       pub place_is : place ≡ faulty_place call drafted.draft table
       pub left : PublishLeaves number Good Reached allows at.place at.text drafted.target drafted.draft drafted.bytes (Err (Fault call)) old new

@@ -14,7 +14,7 @@ use Rattle.table_metadata.specs.View.{location_of}
 use Rattle.table_metadata.specs.Edits.{next_version}
 use Rattle.commit_publish.specs.Stages.{Aim}
 use Rattle.commit_publish.specs.Left.{IsNaming}
-use Rattle.commit_publish.specs.declared.steps.Call.TheVariants.{OnFile, OnNames}
+use Rattle.commit_publish.specs.declared.steps.FailedCall.TheVariants.{OnFile, OnNames}
 use Rattle.commit_publish.specs.declared.publish.PublishErr.{PublishErr}
 use Rattle.commit_publish.specs.declared.publish.PublishErr.TheVariants as publishes
 use Rattle.commit_versions.specs.Names.{version_text_of, version_name, draft_name}
@@ -22,7 +22,7 @@ use Rattle.commit_versions.specs.Opening.{file_limit}
 use Rattle.commit_protocol.specs.Metadata.{IsMetadata}
 use Rattle.commit_protocol.specs.Attempts.{AttemptLeaves}
 use Rattle.commit_protocol.specs.declared.opening.At.{At}
-use Rattle.commit_protocol.specs.declared.commit.Written.{Written}
+use Rattle.commit_protocol.specs.declared.committing.Written.{Written}
 use Rattle.commit_protocol.specs.declared.errors.AttemptErr.{AttemptErr}
 use Rattle.commit_protocol.specs.declared.errors.AttemptErr.TheVariants as attempts
 use Rattle.commit_protocol.specs.declared.errors.CommitErr.{CommitErr}

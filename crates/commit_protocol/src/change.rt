@@ -7,7 +7,7 @@ ghost use Rattle.serde_json.specs.View.{view};
 ghost use Rattle.commit_history.specs.Mannered.{IsMannered};
 ghost use Rattle.commit_history.specs.Runs.{Ran};
 ghost use Rattle.commit_history.specs.Versions.{number_in};
-ghost use Rattle.commit_publish.specs.Stages.{Narrow, NoReach, Exactly, At as Stands};
+ghost use Rattle.commit_publish.specs.Stages.{Narrow, NoReach, Exactly, InState};
 ghost use Rattle.commit_publish.specs.Leaves.{Halts};
 ghost use Rattle.commit_versions.specs.Opening.{OpenStage};
 ghost use Rattle.commit_protocol.specs.Metadata.{IsTableOf};
@@ -56,9 +56,9 @@ pub trait Change<M: Manners> {
         log: &mut Log,
     ) -> Result<Built, AttemptErr>
         requires mannered { IsMannered (number_in table.now) (Narrow IsTableOf table.now) NoReach (M.allows (S.manners store.old)) }
-        requires start { WhereTold (S.past store.old) (Stands (OpenStage (number_in table.now) base.now.place)) }
+        requires start { WhereTold (S.past store.old) (InState (OpenStage (number_in table.now) base.now.place)) }
         requires moment { now < 2 ^ 63 }
-        ensures told { Since (S.past store.old) (S.past store.new) (Ran (number_in table.now) (Narrow IsTableOf table.now) NoReach (M.allows (S.manners store.old)) (Exactly []) (Stands (OpenStage (number_in table.now) base.now.place))) }
+        ensures told { Since (S.past store.old) (S.past store.new) (Ran (number_in table.now) (Narrow IsTableOf table.now) NoReach (M.allows (S.manners store.old)) (Exactly []) (InState (OpenStage (number_in table.now) base.now.place))) }
         ensures built { IfOk result (MakesOf (successor self.old) (same self.old) (view base.now.meta)) }
         ensures seen { OnOk result (seen self.old self.new (view base.now.meta)) }
         ensures refused { IfErr result (refuses self.old (view base.now.meta)) }

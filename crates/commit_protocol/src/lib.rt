@@ -3,19 +3,19 @@
 //!
 //! - `opening`: `open_table`; what it tells is defined in `specs/Metadata.antt`.
 //! - `change`: the trait of changes.
-//! - `commit`: one attempt; what it tells is defined in `specs/Attempts.antt`.
+//! - `committing`: one attempt; what it tells is defined in `specs/Attempts.antt`.
 //! - `verdict`: the law that each answer has a cause of its own where nobody else acts (`specs/Verdicts.antt`).
 //! - `errors`: the refusals and errors of all of them.
 #![tactic(auto)]
 
 mod change;
-mod commit;
+mod committing;
 mod errors;
 mod opening;
 mod verdict;
 
 pub use change::{Built, Change};
-pub use commit::commit as commit_change;
+pub use committing::commit;
 pub use errors::{AttemptErr, CommitErr, Committed, Other, Refusal};
 pub use opening::{At, Metadata, open_table};
 pub use commit_publish::Log;

@@ -6,7 +6,7 @@ ghost use Rattle.serde_json.specs.View.{view};
 ghost use Rattle.commit_history.specs.Mannered.{IsMannered};
 ghost use Rattle.commit_history.specs.Versions.{number_in};
 ghost use Rattle.table_metadata.specs.Spelling.{Spells, HasFault};
-ghost use Rattle.commit_publish.specs.Stages.{Narrow, NoReach, Creating, At as Stands};
+ghost use Rattle.commit_publish.specs.Stages.{Narrow, NoReach, Creating, InState};
 ghost use Rattle.commit_publish.specs.Leaves.{Halts};
 ghost use Rattle.commit_versions.specs.Latest.{IsBaseNumber};
 ghost use Rattle.commit_versions.specs.Opening.{OpenFaultAt};
@@ -122,7 +122,7 @@ pub fn open_table<M: Manners, S: Store<M>>(
     table: &Place,
 ) -> Result<At, OpenErr>
     requires mannered { IsMannered (number_in table.now) (Narrow IsTableOf table.now) NoReach (M.allows (S.manners store.old)) }
-    requires start { WhereTold (S.past store.old) (Stands (λ d. Creating d.pending)) }
+    requires start { WhereTold (S.past store.old) (InState (λ d. Creating d.pending)) }
     ensures told { Since (S.past store.old) (S.past store.new) (TableLeaves (number_in table.now) (Narrow IsTableOf table.now) NoReach (M.allows (S.manners store.old)) table.now result) }
     ensures numbers { IfOk result (λ at. IsBaseNumber (number_in table.now) at.place at.version) }
     ensures metadata { IfOk result (λ at. IsMetadata table.now at.text (view at.meta)) }

@@ -6,7 +6,7 @@ use Rattle.ice_store.specs.History.{Disk, replay, later}
 use Rattle.ice_store.specs.Others.{Acted, Answered, IsOurs}
 use Rattle.ice_store.specs.Calls.{IsUnmoved, IsOpen, IsSettled, CanRename, CreateAnswer, AppendAnswer, PlainAnswer, RenameAnswer, RemoveAnswer}
 use Rattle.ice_store.proofs.OthersLaws.{later-nil}
-use Rattle.ice_store.specs.declared.history.Change.{Change}
+use Rattle.ice_store.specs.declared.history.NameChange.{NameChange}
 use Rattle.ice_store.specs.declared.history.Event.{Event}
 use Rattle.ice_store.specs.declared.history.Held.{Held}
 use Rattle.ice_store.specs.declared.history.Past.{Past}
@@ -17,7 +17,7 @@ use Rattle.ice_store.specs.declared.store.StoreErr.TheVariants.{Failed, Memory}
 use Rattle.ice_store.specs.declared.store.Made.{Made}
 use Rattle.ice_store.specs.declared.store.Made.TheVariants.{New, Exists}
 use Rattle.commit_publish.specs.Leaves.{MakeLeaves, Unmade, Unmoved, Undropped}
-use Rattle.commit_publish.specs.declared.steps.Call.TheVariants.{OnFile, OnNames}
+use Rattle.commit_publish.specs.declared.steps.FailedCall.TheVariants.{OnFile, OnNames}
 use Rattle.ice_store.specs.declared.store.Moved.TheVariants.{Done, Exists as There}
 use Rattle.ice_store.specs.declared.store.Gone.{Gone}
 use Rattle.ice_store.specs.declared.store.Gone.TheVariants.{Done as Away, Absent}
@@ -28,7 +28,7 @@ use Rattle.commit_history.specs.Mannered.{IsMannered}
 use Rattle.commit_history.specs.Runs.{Ran, IsSafe, IsProperStep}
 use Rattle.commit_history.proofs.Stepping.{us}
 use Rattle.commit_history.proofs.Running.{Kept, along_last, ran_then, ran_turned, begins, others_then, reached_run, new_is, idle, does}
-use Rattle.commit_publish.specs.Stages.{Creating, AtRest, Aim, Stage, NoFile, HasDraft, IsTaken, IsLost, At, IsBased, IsRenamed, IsPublished, Exactly, Begun, BegunFill, Anything, Then, Partly, Reaching, fill_plan}
+use Rattle.commit_publish.specs.Stages.{Creating, AtRest, Aim, Stage, NoFile, HasDraft, IsTaken, IsLost, InState, IsBased, IsRenamed, IsPublished, Exactly, Begun, BegunFill, Anything, Then, Partly, Reaching, fill_plan}
 use Rattle.commit_publish.proofs.StageLaws as stages
 
 -- what an attempt works on
@@ -52,13 +52,13 @@ module _ (x : Work) where
   RR = Ran x.number x.Good x.Reached x.allows
 
   abbrev pub K0 : Past → Type 0
-  K0 = At (Stage x.number x.base x.target Creating NoFile)
+  K0 = InState (Stage x.number x.base x.target Creating NoFile)
 
-  abbrev pub KD : (List Change → Type 0) → Bool → List ℕ → Past → Type 0
-  KD Pending s b = At (Stage x.number x.base x.target Pending (HasDraft x.draft s b))
+  abbrev pub KD : (List NameChange → Type 0) → Bool → List ℕ → Past → Type 0
+  KD Pending s b = InState (Stage x.number x.base x.target Pending (HasDraft x.draft s b))
 
   abbrev pub KT : Past → Type 0
-  KT = At (Stage x.number x.base x.target AtRest (IsTaken x.draft x.bytes x.target))
+  KT = InState (Stage x.number x.base x.target AtRest (IsTaken x.draft x.bytes x.target))
 
   abbrev pub St : Past → Type 0
   St past = Steady x.number x.Good x.Reached (standing x.number past)
@@ -82,10 +82,10 @@ module _ (x : Work) where
   kt = stages.kt x.number x.Good x.Reached x.ruled x.localized x.allows x.mannered x.draft x.base x.target x.text x.bytes x.aim
 
   abbrev pub KN : Past → Type 0
-  KN = At (λ d. is_named d.files x.target ≡ true)
+  KN = InState (λ d. is_named d.files x.target ≡ true)
 
   abbrev pub KL : Past → Type 0
-  KL = At (IsLost x.target)
+  KL = InState (IsLost x.target)
 
   kn : Kp KN
   kn = stages.kn x.number x.Good x.Reached x.ruled x.localized x.allows x.mannered x.draft x.base x.target x.text x.bytes x.aim
@@ -365,9 +365,9 @@ module _ (x : Work) where
     pub rename_may : RR (Exactly []) (KD AtRest true x.bytes) old now → CanRename x.draft x.target (replay reached)
     rename_may run = let k = reached_at [] (KD AtRest true x.bytes) (kr true x.bytes) run in record {
       source = (k.file.file, k.file.stands, k.file.sealed_is);
-      settled_from = subst (λ (cs : List Change). IsSettled cs x.draft) (sym k.pending) tt;
-      settled_to = subst (λ (cs : List Change). IsSettled cs x.target) (sym k.pending) tt;
+      settled_from = subst (λ (cs : List NameChange). IsSettled cs x.draft) (sym k.pending) tt;
+      settled_to = subst (λ (cs : List NameChange). IsSettled cs x.target) (sym k.pending) tt;
     }
 
     pub remove_may : RR (Exactly []) KT old now → IsSettled (replay reached).pending x.draft
-    remove_may run = let k = reached_at [] KT kt run in subst (λ (cs : List Change). IsSettled cs x.draft) (sym k.pending) tt
+    remove_may run = let k = reached_at [] KT kt run in subst (λ (cs : List NameChange). IsSettled cs x.draft) (sym k.pending) tt

@@ -18,8 +18,8 @@ use Rattle.ice_store.specs.Calls.{Rose}
 use Rattle.commit_publish.specs.Left.{without_place, places_after, count_after, made_by, IsLeft, IsMore, IsNaming, Leaves, Notes, Takes, TellsRename, draft_if}
 use Rattle.commit_publish.specs.Logs.{is_failed, left_by_move, left_by_drop, unknown_from}
 use Rattle.commit_publish.specs.declared.publish.PublishErr.TheVariants.{Unknown}
-use Rattle.commit_publish.specs.declared.steps.Call.{Call}
-use Rattle.commit_publish.specs.declared.steps.Call.TheVariants.{OnFile, OnNames}
+use Rattle.commit_publish.specs.declared.steps.FailedCall.{FailedCall}
+use Rattle.commit_publish.specs.declared.steps.FailedCall.TheVariants.{OnFile, OnNames}
 use Rattle.commit_publish.proofs.CallLaws.{Work, RR}
 
 pub without_only : (place : Parts) → without_place (place ∷ []) place ≡ []
@@ -54,27 +54,27 @@ filled_keeps draft bytes places steps fill = elim fill.begun [
   | inr all ↦ begun_keeps (fill_plan draft bytes) steps places ((λ l. refl), refl, ((λ l. refl), refl, ((λ l. refl), refl, tt))) all
 ]
 
-pub begun_rename : (draft target : Parts) (call : Call) (cause : StoreErr) (l : List Step) → Unmoved draft target call cause l → Begun (Rename draft target ∷ SyncNames ∷ []) l
+pub begun_rename : (draft target : Parts) (call : FailedCall) (cause : StoreErr) (l : List Step) → Unmoved draft target call cause l → Begun (Rename draft target ∷ SyncNames ∷ []) l
 begun_rename draft target OnFile Failed l b = record { rest = b.rest ++ SyncNames ∷ []; is = ap (λ (z : List Step). z ++ SyncNames ∷ []) b.is ∙ append_assoc l b.rest (SyncNames ∷ []) }
 begun_rename draft target OnFile Memory l e = record { rest = Rename draft target ∷ SyncNames ∷ []; is = ap (λ (z : List Step). z ++ Rename draft target ∷ SyncNames ∷ []) (sym e) }
 begun_rename draft target OnNames cause l t = record { rest = t.then.rest; is = ap (λ (z : List Step). Rename draft target ∷ z) t.then.is ∙ ap (λ (z : List Step). z ++ t.then.rest) (sym t.is) }
 
 -- what the rename and the sync behind it leave where one of them did not do its work, and the removal and its sync
-abbrev pub moved_places : Call → StoreErr → Parts → Parts → List Parts
+abbrev pub moved_places : FailedCall → StoreErr → Parts → Parts → List Parts
 moved_places OnFile Failed draft target = draft ∷ target ∷ []
 moved_places OnFile Memory draft target = draft ∷ []
 moved_places OnNames cause draft target = draft ∷ []
 
-abbrev pub dropped_places : Call → Parts → List Parts
+abbrev pub dropped_places : FailedCall → Parts → List Parts
 dropped_places OnFile draft = draft ∷ []
 dropped_places OnNames draft = []
 
-pub moved_is : (call : Call) (cause : StoreErr) (draft target : Parts) (left : List Parts) → left_by_move call cause draft target left ≡ left ++ moved_places call cause draft target
+pub moved_is : (call : FailedCall) (cause : StoreErr) (draft target : Parts) (left : List Parts) → left_by_move call cause draft target left ≡ left ++ moved_places call cause draft target
 moved_is OnFile Failed draft target left = refl
 moved_is OnFile Memory draft target left = refl
 moved_is OnNames cause draft target left = refl
 
-pub dropped_is : (call : Call) (draft : Parts) (left : List Parts) → left_by_drop call draft left ≡ left ++ dropped_places call draft
+pub dropped_is : (call : FailedCall) (draft : Parts) (left : List Parts) → left_by_drop call draft left ≡ left ++ dropped_places call draft
 dropped_is OnFile draft left = refl
 dropped_is OnNames draft left = sym (append-nil left)
 
@@ -112,12 +112,12 @@ module _ (draft target : Parts) (bytes : List ℕ) (before now : ℕ) where
   pub published_left : (steps : List Step) → Exactly (Rename draft target ∷ SyncNames ∷ []) steps → Left 1 (draft ∷ []) steps []
   published_left steps e = exact 1 (draft ∷ []) steps [] (sym (ap (made_by 1 (draft ∷ [])) e ∙ without_only draft))
 
-  pub unmoved_left : (call : Call) (cause : StoreErr) → RoseBy cause before now → (steps : List Step) → Unmoved draft target call cause steps → Left 0 (draft ∷ []) steps (moved_places call cause draft target)
+  pub unmoved_left : (call : FailedCall) (cause : StoreErr) → RoseBy cause before now → (steps : List Step) → Unmoved draft target call cause steps → Left 0 (draft ∷ []) steps (moved_places call cause draft target)
   unmoved_left call cause rose steps unmoved =
       let kept : draft ∷ [] ≡ made_by 0 (draft ∷ []) steps = sym (begun_keeps (Rename draft target ∷ SyncNames ∷ []) steps (draft ∷ []) ((λ l. refl), refl, ((λ l. refl), refl, tt)) (begun_rename draft target call cause steps unmoved)) in
       by_call call cause rose kept
     where
-      by_call : (call : Call) (cause : StoreErr) → RoseBy cause before now → draft ∷ [] ≡ made_by 0 (draft ∷ []) steps → Left 0 (draft ∷ []) steps (moved_places call cause draft target)
+      by_call : (call : FailedCall) (cause : StoreErr) → RoseBy cause before now → draft ∷ [] ≡ made_by 0 (draft ∷ []) steps → Left 0 (draft ∷ []) steps (moved_places call cause draft target)
       by_call OnFile Failed rose kept = record { more = target ∷ []; is = ap (λ (l : List Parts). l ++ target ∷ []) kept; cause = inr (rose, (Rename draft target, inr (inl refl), refl)) }
       by_call OnFile Memory rose kept = exact 0 (draft ∷ []) steps (draft ∷ []) kept
       by_call OnNames cause rose kept = exact 0 (draft ∷ []) steps (draft ∷ []) kept
@@ -125,7 +125,7 @@ module _ (draft target : Parts) (bytes : List ℕ) (before now : ℕ) where
   pub dropped_left : (steps : List Step) → Exactly (Remove draft ∷ SyncNames ∷ []) steps → Left 0 (draft ∷ []) steps []
   dropped_left steps e = exact 0 (draft ∷ []) steps [] (sym (ap (made_by 0 (draft ∷ [])) e ∙ without_only draft))
 
-  pub undropped_left : (call : Call) (cause : StoreErr) → RoseBy cause before now → (steps : List Step) → Undropped draft call cause steps → Left 0 (draft ∷ []) steps (dropped_places call draft)
+  pub undropped_left : (call : FailedCall) (cause : StoreErr) → RoseBy cause before now → (steps : List Step) → Undropped draft call cause steps → Left 0 (draft ∷ []) steps (dropped_places call draft)
   undropped_left OnFile Failed rose steps begun = begun_one (Remove draft) (λ (l : List Step). Left 0 (draft ∷ []) l (draft ∷ []))
       (exact 0 (draft ∷ []) [] (draft ∷ []) refl)
       (record { more = draft ∷ []; is = ap (λ (l : List Parts). l ++ draft ∷ []) (sym (without_only draft)); cause = inr (rose, (Remove draft, inr (inr refl), refl)) }) steps begun
@@ -146,7 +146,7 @@ module _ (x : Work) (before now : ℕ) where
 
 -- A rename whose end is unknown.
 
-pub tells_rename : (x : Work) (call : Call) (cause : StoreErr) (had has : List Parts) (old new : Past) → unknown_from cause ≡ Unknown → has ≡ left_by_move call cause x.draft x.target had → RR x (Unmoved x.draft x.target call cause) Anything old new → TellsRename x.draft x.target had has old new
+pub tells_rename : (x : Work) (call : FailedCall) (cause : StoreErr) (had has : List Parts) (old new : Past) → unknown_from cause ≡ Unknown → has ≡ left_by_move call cause x.draft x.target had → RR x (Unmoved x.draft x.target call cause) Anything old new → TellsRename x.draft x.target had has old new
 tells_rename x OnFile Failed had has old new e is run = inr is
 tells_rename x OnFile Memory had has old new e is run = absurd (cc (e))
 tells_rename x OnNames Failed had has old new e is run = inl (is, record { events = run.events; is = run.is; before = []; after = run.made.rest; among = run.made.is })

@@ -10,8 +10,8 @@ use Rattle.commit_publish.specs.Stages.{Creating, AtRest, Exactly, Begun, BegunF
 use Rattle.commit_publish.specs.Leaves.{Unmade, Unmoved, Undropped, UnwrittenLeaves, FinishLeaves, PublishLeaves}
 use Rattle.commit_history.proofs.Running.{ran_then, ran_turned}
 use Rattle.commit_publish.specs.Logs.{LeftBy, left_by_move, left_by_drop, fault_from, unknown_from}
-use Rattle.commit_publish.specs.declared.steps.Call.{Call}
-use Rattle.commit_publish.specs.declared.steps.Call.TheVariants.{OnFile, OnNames}
+use Rattle.commit_publish.specs.declared.steps.FailedCall.{FailedCall}
+use Rattle.commit_publish.specs.declared.steps.FailedCall.TheVariants.{OnFile, OnNames}
 use Rattle.commit_publish.specs.declared.publish.PublishErr.{PublishErr}
 use Rattle.commit_publish.specs.declared.publish.PublishErr.TheVariants.{NameTaken, Contended, Unknown, Fault, NoMemory}
 use Rattle.commit_publish.proofs.LeftLaws.{begun_rename}
@@ -20,13 +20,13 @@ use Rattle.commit_publish.proofs.CallLaws.{Work, RR, K0, KD, KT, KL}
 
 -- The log.
 
-pub moved_left : (call : Call) (cause : StoreErr) (draft target : Parts) (old new : List Parts) → new ≡ left_by_move call cause draft target old → LeftBy draft target (Err (unknown_from cause)) old new
+pub moved_left : (call : FailedCall) (cause : StoreErr) (draft target : Parts) (old new : List Parts) → new ≡ left_by_move call cause draft target old → LeftBy draft target (Err (unknown_from cause)) old new
 moved_left OnFile Failed draft target old new is = inr is
 moved_left OnFile Memory draft target old new is = inr is
 moved_left OnNames Failed draft target old new is = inl is
 moved_left OnNames Memory draft target old new is = inr is
 
-pub dropped_left : (call : Call) (cause : StoreErr) (draft target : Parts) (old new : List Parts) → new ≡ left_by_drop call draft old → LeftBy draft target (Err (fault_from cause call)) old new
+pub dropped_left : (call : FailedCall) (cause : StoreErr) (draft target : Parts) (old new : List Parts) → new ≡ left_by_drop call draft old → LeftBy draft target (Err (fault_from cause call)) old new
 dropped_left OnFile Failed draft target old new is = is
 dropped_left OnFile Memory draft target old new is = inr is
 dropped_left OnNames Failed draft target old new is = inl is
@@ -47,7 +47,7 @@ module _ (x : Work) where
   abbrev pub Unwrote : PublishErr → Past → Past → Type 0
   Unwrote = UnwrittenLeaves x.number x.Good x.Reached x.allows x.draft x.bytes
 
-  partly_unwritten : (call : Call) (cause : StoreErr) (old new : Past) → RR x (Partly x.draft x.bytes) Anything old new → Unwrote (fault_from cause call) old new
+  partly_unwritten : (call : FailedCall) (cause : StoreErr) (old new : Past) → RR x (Partly x.draft x.bytes) Anything old new → Unwrote (fault_from cause call) old new
   partly_unwritten call Failed old new run = run
   partly_unwritten call Memory old new run = run
 
@@ -55,10 +55,10 @@ module _ (x : Work) where
   begun_creation Failed l b = b
   begun_creation Memory l e = record { rest = Create x.draft ∷ []; is = ap (λ (z : List Step). z ++ Create x.draft ∷ []) (sym e) }
 
-  pub unmade : (call : Call) (cause : StoreErr) (old new : Past) → RR x (Unmade x.draft cause) Anything old new → Unwrote (fault_from cause call) old new
+  pub unmade : (call : FailedCall) (cause : StoreErr) (old new : Past) → RR x (Unmade x.draft cause) Anything old new → Unwrote (fault_from cause call) old new
   unmade call cause old new run = partly_unwritten call cause old new (turned (Unmade x.draft cause) (Partly x.draft x.bytes) old new (λ l b. inl (begun_creation cause l b)) run)
 
-  pub unfilled : (call : Call) (cause : StoreErr) (old mid new : Past) → RR x (Exactly (Create x.draft ∷ [])) (KD x Creating false []) old mid → RR x (BegunFill x.draft x.bytes) Anything mid new → Unwrote (fault_from cause call) old new
+  pub unfilled : (call : FailedCall) (cause : StoreErr) (old mid new : Past) → RR x (Exactly (Create x.draft ∷ [])) (KD x Creating false []) old mid → RR x (BegunFill x.draft x.bytes) Anything mid new → Unwrote (fault_from cause call) old new
   unfilled call cause old mid new a b = partly_unwritten call cause old new (turned (Then (Create x.draft ∷ []) (BegunFill x.draft x.bytes)) (Partly x.draft x.bytes) old new (λ l t. inr (inl t))
       (calls.join_then x old mid new (Create x.draft ∷ []) (BegunFill x.draft x.bytes) (KD x Creating false []) a b))
 
@@ -67,7 +67,7 @@ module _ (x : Work) where
   abbrev pub Finish : Result (Unit {0}) PublishErr → Past → Past → Type 0
   Finish = FinishLeaves x.number x.Good x.Reached x.allows x.base x.text x.target x.draft x.bytes
 
-  pub unmoved : (call : Call) (cause : StoreErr) (old new : Past) → RR x (Unmoved x.draft x.target call cause) Anything old new → Finish (Err (unknown_from cause)) old new
+  pub unmoved : (call : FailedCall) (cause : StoreErr) (old new : Past) → RR x (Unmoved x.draft x.target call cause) Anything old new → Finish (Err (unknown_from cause)) old new
   unmoved call cause old new run = by_cause cause (turned (Unmoved x.draft x.target call cause) (Begun move_plan) old new (begun_rename x.draft x.target call cause) run)
     where
       by_cause : (cause : StoreErr) → RR x (Begun move_plan) Anything old new → Finish (Err (unknown_from cause)) old new
@@ -77,7 +77,7 @@ module _ (x : Work) where
   behind_none : (P : List Step → Type 0) (l k : List Step) → l ≡ [] → P k → P (l ++ k)
   behind_none P l k none here = subst (λ z. P (z ++ k)) (sym none) here
 
-  begun_removal : (call : Call) (cause : StoreErr) (l : List Step) → Undropped x.draft call cause l → Begun drop_plan l
+  begun_removal : (call : FailedCall) (cause : StoreErr) (l : List Step) → Undropped x.draft call cause l → Begun drop_plan l
   begun_removal OnFile Failed l b = record { rest = b.rest ++ SyncNames ∷ []; is = ap (λ (z : List Step). z ++ SyncNames ∷ []) b.is ∙ append_assoc l b.rest (SyncNames ∷ []) }
   begun_removal OnFile Memory l e = record { rest = drop_plan; is = ap (λ (z : List Step). z ++ drop_plan) (sym e) }
   begun_removal OnNames cause l t = record { rest = t.then.rest; is = ap (λ (z : List Step). Remove x.draft ∷ z) t.then.is ∙ ap (λ (z : List Step). z ++ t.then.rest) (sym t.is) }
@@ -85,7 +85,7 @@ module _ (x : Work) where
   pub lost_then : (P : List Step → Type 0) (K : Past → Type 0) (old mid new : Past) → RR x (Exactly []) (KT x) old mid → RR x P K mid new → RR x P K old new
   lost_then P K old mid new a b = ran_then x.number x.Good x.Reached x.allows (Exactly []) P P (KT x) K (behind_none P) old mid new a b
 
-  pub undropped : (call : Call) (cause : StoreErr) (old mid new : Past) → RR x (Exactly []) (KT x) old mid → RR x (Undropped x.draft call cause) Anything mid new → Finish (Err (fault_from cause call)) old new
+  pub undropped : (call : FailedCall) (cause : StoreErr) (old mid new : Past) → RR x (Exactly []) (KT x) old mid → RR x (Undropped x.draft call cause) Anything mid new → Finish (Err (fault_from cause call)) old new
   undropped call cause old mid new a b = by_cause cause (lost_then (Begun drop_plan) Anything old mid new a (turned (Undropped x.draft call cause) (Begun drop_plan) mid new (begun_removal call cause) b))
     where
       by_cause : (cause : StoreErr) → RR x (Begun drop_plan) Anything old new → Finish (Err (fault_from cause call)) old new

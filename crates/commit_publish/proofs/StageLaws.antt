@@ -6,8 +6,8 @@ use Rattle.ice_store.specs.History.{Disk, replay, later, disk_after, files_after
 use Rattle.ice_store.specs.Calls.{IsCreation, IsUnmoved}
 use Rattle.ice_store.proofs.FileLaws.{find_without_other, find_put_same, find_put_other, find_changed_same, find_renamed_to}
 use Rattle.ice_store.proofs.HistoryLaws.{replay-later}
-use Rattle.ice_store.specs.declared.history.Change.{Change}
-use Rattle.ice_store.specs.declared.history.Change.TheVariants.{Created, Renamed, Removed}
+use Rattle.ice_store.specs.declared.history.NameChange.{NameChange}
+use Rattle.ice_store.specs.declared.history.NameChange.TheVariants.{Created, Renamed, Removed}
 use Rattle.ice_store.specs.declared.history.Held.{Held}
 use Rattle.ice_store.specs.declared.history.Past.{Past}
 use Rattle.ice_store.specs.declared.history.Step.{Step}
@@ -23,7 +23,7 @@ use Rattle.commit_history.proofs.Following.{standing_disk, standing_later}
 use Rattle.commit_history.proofs.Stepping.{us, them, each_push, free_outside, create_steady, append_steady, seal_steady, sync_steady, remove_steady, rename_steady, changed_named}
 use Rattle.commit_history.proofs.Manners.{unnamed, not_number, rename_rises}
 use Rattle.commit_history.proofs.Running.{Kept}
-use Rattle.commit_publish.specs.Stages.{Creating, AtRest, Aim, Stage, NoFile, HasDraft, IsTaken, IsLost, At, Holds, IsCommitted, IsRenamed, IsPublished, Anything}
+use Rattle.commit_publish.specs.Stages.{Creating, AtRest, Aim, Stage, NoFile, HasDraft, IsTaken, IsLost, InState, Holds, IsCommitted, IsRenamed, IsPublished, Anything}
 
 holds_more : (tables part more : Tables) → Holds tables part → Holds (tables ++ more) part
 holds_more tables part more h = record {
@@ -35,13 +35,13 @@ holds_more tables part more h = record {
 committed_more : (text bytes : List ℕ) (A : Type 0) (tables more : Tables) → IsCommitted text bytes A tables → IsCommitted text bytes A (tables ++ more)
 committed_more text bytes A tables more c = (holds_more tables (Some bytes ∷ []) more c.0, λ a. holds_more tables (Some text ∷ Some bytes ∷ []) more (c.1 a))
 
-creations_fresh : (number : Parts → ℕ) (Reached : ReachBy) (fs : List Held) (cs : List Change) → Creating cs → Each (IsOldChange number Reached fs) cs → Each (IsFreshChange number Reached fs) cs
+creations_fresh : (number : Parts → ℕ) (Reached : ReachBy) (fs : List Held) (cs : List NameChange) → Creating cs → Each (IsOldChange number Reached fs) cs → Each (IsFreshChange number Reached fs) cs
 creations_fresh number Reached fs [] made old = tt
 creations_fresh number Reached fs (Created p ∷ cs) made old = absurd old.0
 creations_fresh number Reached fs (Renamed p q ∷ cs) made old = absurd old.0
 creations_fresh number Reached fs (Removed h ∷ cs) made old = absurd made.0
 
-pub creations_unmoved : (cs : List Change) (p : Parts) → Creating cs → IsUnmoved cs p
+pub creations_unmoved : (cs : List NameChange) (p : Parts) → Creating cs → IsUnmoved cs p
 creations_unmoved [] p made = tt
 creations_unmoved (c ∷ cs) p made = (λ names. made.0, creations_unmoved cs p made.1)
 
@@ -54,17 +54,17 @@ module _ (number : Parts → ℕ) (Good : GoodBy) (Reached : ReachBy) (ruled : I
   ]
 
   module _ (draft base target : Parts) (text bytes : List ℕ) (aim : Aim number draft base target) where
-    abbrev pub St : (List Change → Type 0) → (List Held → Type 0) → Disk → Type 0
+    abbrev pub St : (List NameChange → Type 0) → (List Held → Type 0) → Disk → Type 0
     St = Stage number base target
 
     abbrev pub K0 : Past → Type 0
-    K0 = At (St Creating NoFile)
+    K0 = InState (St Creating NoFile)
 
-    abbrev pub KD : (List Change → Type 0) → Bool → List ℕ → Past → Type 0
-    KD Pending s b = At (St Pending (HasDraft draft s b))
+    abbrev pub KD : (List NameChange → Type 0) → Bool → List ℕ → Past → Type 0
+    KD Pending s b = InState (St Pending (HasDraft draft s b))
 
     abbrev pub KT : Past → Type 0
-    KT = At (St AtRest (IsTaken draft bytes target))
+    KT = InState (St AtRest (IsTaken draft bytes target))
 
     abbrev pub RR : (List Step → Type 0) → (Past → Type 0) → Past → Past → Type 0
     RR = Ran number Good Reached allows
@@ -91,7 +91,7 @@ module _ (number : Parts → ℕ) (Good : GoodBy) (Reached : ReachBy) (ruled : I
           inr (subst (λ (p : Parts). is_named gs p ≡ true) (sym it) (ap is_some at.1.stands))
     ]
 
-    kept_stage : (Pending : List Change → Type 0) → Pending [] → (File : List Held → Type 0) → ((past : Past) (step : Step) (t : ℕ) → allows past step → File (replay past).files → File (files_after (replay past).files step Them t)) → Kept number Good Reached allows ruled localized mannered (At (St Pending File))
+    kept_stage : (Pending : List NameChange → Type 0) → Pending [] → (File : List Held → Type 0) → ((past : Past) (step : Step) (t : ℕ) → allows past step → File (replay past).files → File (files_after (replay past).files step Them t)) → Kept number Good Reached allows ruled localized mannered (InState (St Pending File))
     kept_stage Pending none File keeps past step t may here = subst (St Pending File) (sym (replay-later past (them step t ∷ []))) (record {
       pending = none;
       last_or_taken = last_kept past step t may here.last_or_taken;
@@ -119,7 +119,7 @@ module _ (number : Parts → ℕ) (Good : GoodBy) (Reached : ReachBy) (ruled : I
     pub kt : Kp KT
     kt = kept_stage AtRest refl (IsTaken draft bytes target) taken_kept
 
-    pub kn : Kp (At (λ d. is_named d.files target ≡ true))
+    pub kn : Kp (InState (λ d. is_named d.files target ≡ true))
     kn past step t may here = subst (λ d. is_named d.files target ≡ true) (sym (replay-later past (them step t ∷ []))) (mannered.stays past step t target may target_pos here)
 
     pub ka : Kp Anything
@@ -143,7 +143,7 @@ module _ (number : Parts → ℕ) (Good : GoodBy) (Reached : ReachBy) (ruled : I
     on_standing : (K : Disk → Type 0) (past : Past) → K (replay past) → K (standing number past).disk
     on_standing K past here = subst K (sym (standing_disk number past)) here
 
-    after : (K : Disk → Type 0) (past : Past) (step : Step) (t : ℕ) → K (disk_after (replay past) (us step t)) → At K (later past (us step t ∷ []))
+    after : (K : Disk → Type 0) (past : Past) (step : Step) (t : ℕ) → K (disk_after (replay past) (us step t)) → InState K (later past (us step t ∷ []))
     after K past step t there = subst K (sym (replay-later past (us step t ∷ []))) there
 
     abbrev pub St1 : Past → Type 0
@@ -209,17 +209,17 @@ module _ (number : Parts → ℕ) (Good : GoodBy) (Reached : ReachBy) (ruled : I
       remove_keeps never here steady =
           let now = on_standing (St AtRest (IsTaken draft bytes target)) past here in
           let s = standing number past in
-          remove_steady number Good Reached ruled localized s steady draft t (subst (λ (cs : List Change). Each (IsOldChange number Reached s.disk.files) cs) (sym now.pending) tt)
+          remove_steady number Good Reached ruled localized s steady draft t (subst (λ (cs : List NameChange). Each (IsOldChange number Reached s.disk.files) cs) (sym now.pending) tt)
           (record { no_version = aim.plain; unreached = never s.disk.files draft })
 
       abbrev pub KN : Past → Type 0
-      KN = At (λ d. is_named d.files target ≡ true)
+      KN = InState (λ d. is_named d.files target ≡ true)
 
       pub remove_leads : KT past → KN (later past (us (Remove draft) t ∷ []))
       remove_leads here = after (λ d. is_named d.files target ≡ true) past (Remove draft) t
           (ap is_some (find_without_other (replay past).files draft target (not_number number Good Reached ruled localized draft target aim.plain target_pos)) ∙ here.file.taken)
 
-      pub named_leads : KN past → At (IsLost target) (later past (us SyncNames t ∷ []))
+      pub named_leads : KN past → InState (IsLost target) (later past (us SyncNames t ∷ []))
       named_leads here = after (IsLost target) past SyncNames t (record { at_rest = refl; taken = here })
 
       -- the rename

@@ -15,10 +15,10 @@ use Rattle.ice_store.specs.declared.store.Moved.{Moved}
 use Rattle.ice_store.specs.declared.store.Moved.TheVariants.{Done, Exists as There}
 use Rattle.commit_history.specs.Tables.{GoodBy, ReachBy}
 use Rattle.commit_history.specs.Runs.{Ran}
-use Rattle.commit_publish.specs.Stages.{Creating, AtRest, Stage, HasDraft, IsTaken, IsLost, At, IsBased, IsPublished, Exactly, Begun, BegunFill, Anything, Then, Partly, Reaching, draft_plan, fill_plan}
-use Rattle.commit_publish.specs.declared.steps.Call.{Call}
-use Rattle.commit_publish.specs.declared.steps.Call.TheVariants.{OnFile, OnNames}
-use Rattle.commit_publish.specs.declared.steps.CallErr.{CallErr}
+use Rattle.commit_publish.specs.Stages.{Creating, AtRest, Stage, HasDraft, IsTaken, IsLost, InState, IsBased, IsPublished, Exactly, Begun, BegunFill, Anything, Then, Partly, Reaching, draft_plan, fill_plan}
+use Rattle.commit_publish.specs.declared.steps.FailedCall.{FailedCall}
+use Rattle.commit_publish.specs.declared.steps.FailedCall.TheVariants.{OnFile, OnNames}
+use Rattle.commit_publish.specs.declared.steps.StepErr.{StepErr}
 use Rattle.commit_publish.specs.declared.publish.Unwritten.{Unwritten}
 use Rattle.commit_publish.specs.declared.publish.PublishErr.{PublishErr}
 use Rattle.commit_publish.specs.declared.publish.PublishErr.TheVariants.{NameTaken, Contended, Unknown, Fault, NoMemory}
@@ -28,7 +28,7 @@ abbrev pub RoseBy : StoreErr → ℕ → ℕ → Type 0
 RoseBy Failed before now = Rose before now
 RoseBy Memory before now = Unit {0}
 
-abbrev pub CallRose : {T : Type 0} → Result T CallErr → ℕ → ℕ → Type 0
+abbrev pub CallRose : {T : Type 0} → Result T StepErr → ℕ → ℕ → Type 0
 CallRose (Ok x) before now = Unit {0}
 CallRose (Err e) before now = RoseBy e.cause before now
 
@@ -43,53 +43,53 @@ Unmade draft Failed = Begun (Create draft ∷ [])
 Unmade draft Memory = Exactly []
 
 -- of a rename with the sync behind it: only where the rename itself failed it may not have taken place
-abbrev pub Unmoved : Parts → Parts → Call → StoreErr → List Step → Type 0
+abbrev pub Unmoved : Parts → Parts → FailedCall → StoreErr → List Step → Type 0
 Unmoved draft target OnFile Failed = Begun (Rename draft target ∷ [])
 Unmoved draft target OnFile Memory = Exactly []
 Unmoved draft target OnNames cause = Then (Rename draft target ∷ []) (Begun (SyncNames ∷ []))
 
 -- and of a removal with the sync behind it
-abbrev pub Undropped : Parts → Call → StoreErr → List Step → Type 0
+abbrev pub Undropped : Parts → FailedCall → StoreErr → List Step → Type 0
 Undropped draft OnFile Failed = Begun (Remove draft ∷ [])
 Undropped draft OnFile Memory = Exactly []
 Undropped draft OnNames cause = Then (Remove draft ∷ []) (Begun (SyncNames ∷ []))
 
 module _ (number : Parts → ℕ) (Good : GoodBy) (Reached : ReachBy) (allows : Past → Step → Type 0) where
-  abbrev pub MakeLeaves : Parts → Parts → Parts → Result Made CallErr → Past → Past → Type 0
-  MakeLeaves base target draft (Ok New) = Ran number Good Reached allows (Exactly (Create draft ∷ [])) (At (Stage number base target Creating (HasDraft draft false [])))
-  MakeLeaves base target draft (Ok Exists) = Ran number Good Reached allows (Exactly []) (At (λ d. is_named d.files draft ≡ true))
+  abbrev pub MakeLeaves : Parts → Parts → Parts → Result Made StepErr → Past → Past → Type 0
+  MakeLeaves base target draft (Ok New) = Ran number Good Reached allows (Exactly (Create draft ∷ [])) (InState (Stage number base target Creating (HasDraft draft false [])))
+  MakeLeaves base target draft (Ok Exists) = Ran number Good Reached allows (Exactly []) (InState (λ d. is_named d.files draft ≡ true))
   MakeLeaves base target draft (Err e) = Ran number Good Reached allows (Unmade draft e.cause) Anything
 
-  abbrev pub FillLeaves : Parts → Parts → Parts → List ℕ → Result (Unit {0}) CallErr → Past → Past → Type 0
-  FillLeaves base target draft bytes (Ok u) = Ran number Good Reached allows (Exactly (fill_plan draft bytes)) (At (Stage number base target AtRest (HasDraft draft true bytes)))
+  abbrev pub FillLeaves : Parts → Parts → Parts → List ℕ → Result (Unit {0}) StepErr → Past → Past → Type 0
+  FillLeaves base target draft bytes (Ok u) = Ran number Good Reached allows (Exactly (fill_plan draft bytes)) (InState (Stage number base target AtRest (HasDraft draft true bytes)))
   FillLeaves base target draft bytes (Err e) = Ran number Good Reached allows (BegunFill draft bytes) Anything
 
-  abbrev pub MoveLeaves : Parts → List ℕ → Parts → Parts → List ℕ → Result Moved CallErr → Past → Past → Type 0
+  abbrev pub MoveLeaves : Parts → List ℕ → Parts → Parts → List ℕ → Result Moved StepErr → Past → Past → Type 0
   MoveLeaves base text target draft bytes (Ok Done) old new =
       Ran number Good Reached allows (Exactly (Rename draft target ∷ SyncNames ∷ [])) (IsPublished number text bytes (IsBased number Good Reached base text old)) old new
-  MoveLeaves base text target draft bytes (Ok There) old new = Ran number Good Reached allows (Exactly []) (At (Stage number base target AtRest (IsTaken draft bytes target))) old new
+  MoveLeaves base text target draft bytes (Ok There) old new = Ran number Good Reached allows (Exactly []) (InState (Stage number base target AtRest (IsTaken draft bytes target))) old new
   MoveLeaves base text target draft bytes (Err e) old new = Ran number Good Reached allows (Unmoved draft target e.call e.cause) Anything old new
 
-  abbrev pub DropLeaves : Parts → Parts → Result (Unit {0}) CallErr → Past → Past → Type 0
-  DropLeaves draft target (Ok u) = Ran number Good Reached allows (Exactly (Remove draft ∷ SyncNames ∷ [])) (At (IsLost target))
+  abbrev pub DropLeaves : Parts → Parts → Result (Unit {0}) StepErr → Past → Past → Type 0
+  DropLeaves draft target (Ok u) = Ran number Good Reached allows (Exactly (Remove draft ∷ SyncNames ∷ [])) (InState (IsLost target))
   DropLeaves draft target (Err e) = Ran number Good Reached allows (Undropped draft e.call e.cause) Anything
 
   abbrev pub UnwrittenLeaves : Parts → List ℕ → PublishErr → Past → Past → Type 0
-  UnwrittenLeaves draft bytes NameTaken = Ran number Good Reached allows (Exactly []) (At (λ d. is_named d.files draft ≡ true))
+  UnwrittenLeaves draft bytes NameTaken = Ran number Good Reached allows (Exactly []) (InState (λ d. is_named d.files draft ≡ true))
   UnwrittenLeaves draft bytes Contended = λ old new. ⊥
   UnwrittenLeaves draft bytes Unknown = λ old new. ⊥
   UnwrittenLeaves draft bytes (Fault call) = Ran number Good Reached allows (Partly draft bytes) Anything
   UnwrittenLeaves draft bytes NoMemory = Ran number Good Reached allows (Partly draft bytes) Anything
 
   abbrev pub WriteLeaves : Parts → Parts → Parts → List ℕ → Result (Unit {0}) Unwritten → Past → Past → Type 0
-  WriteLeaves base target draft bytes (Ok u) = Ran number Good Reached allows (Exactly (draft_plan draft bytes)) (At (Stage number base target AtRest (HasDraft draft true bytes)))
+  WriteLeaves base target draft bytes (Ok u) = Ran number Good Reached allows (Exactly (draft_plan draft bytes)) (InState (Stage number base target AtRest (HasDraft draft true bytes)))
   WriteLeaves base target draft bytes (Err e) = UnwrittenLeaves draft bytes e.error
 
   -- from a written draft on
   abbrev pub FinishLeaves : Parts → List ℕ → Parts → Parts → List ℕ → Result (Unit {0}) PublishErr → Past → Past → Type 0
   FinishLeaves base text target draft bytes (Ok u) old new = Ran number Good Reached allows (Exactly (Rename draft target ∷ SyncNames ∷ [])) (IsPublished number text bytes (IsBased number Good Reached base text old)) old new
   FinishLeaves base text target draft bytes (Err NameTaken) old new = ⊥
-  FinishLeaves base text target draft bytes (Err Contended) old new = Ran number Good Reached allows (Exactly (Remove draft ∷ SyncNames ∷ [])) (At (IsLost target)) old new
+  FinishLeaves base text target draft bytes (Err Contended) old new = Ran number Good Reached allows (Exactly (Remove draft ∷ SyncNames ∷ [])) (InState (IsLost target)) old new
   FinishLeaves base text target draft bytes (Err Unknown) old new = Ran number Good Reached allows (Begun (Rename draft target ∷ SyncNames ∷ [])) Anything old new
   FinishLeaves base text target draft bytes (Err (Fault call)) old new = Ran number Good Reached allows (Begun (Remove draft ∷ SyncNames ∷ [])) Anything old new
   FinishLeaves base text target draft bytes (Err NoMemory) old new = Ran number Good Reached allows (λ steps. Begun (Rename draft target ∷ SyncNames ∷ []) steps ⊎ Begun (Remove draft ∷ SyncNames ∷ []) steps) Anything old new
@@ -98,8 +98,8 @@ module _ (number : Parts → ℕ) (Good : GoodBy) (Reached : ReachBy) (allows : 
   abbrev pub PublishLeaves : Parts → List ℕ → Parts → Parts → List ℕ → Result (Unit {0}) PublishErr → Past → Past → Type 0
   PublishLeaves base text target draft bytes (Ok u) old new =
       Ran number Good Reached allows (Exactly (draft_plan draft bytes ++ (Rename draft target ∷ SyncNames ∷ []))) (IsPublished number text bytes (IsBased number Good Reached base text old)) old new
-  PublishLeaves base text target draft bytes (Err NameTaken) old new = Ran number Good Reached allows (Exactly []) (At (λ d. is_named d.files draft ≡ true)) old new
-  PublishLeaves base text target draft bytes (Err Contended) old new = Ran number Good Reached allows (Exactly (draft_plan draft bytes ++ (Remove draft ∷ SyncNames ∷ []))) (At (IsLost target)) old new
+  PublishLeaves base text target draft bytes (Err NameTaken) old new = Ran number Good Reached allows (Exactly []) (InState (λ d. is_named d.files draft ≡ true)) old new
+  PublishLeaves base text target draft bytes (Err Contended) old new = Ran number Good Reached allows (Exactly (draft_plan draft bytes ++ (Remove draft ∷ SyncNames ∷ []))) (InState (IsLost target)) old new
   PublishLeaves base text target draft bytes (Err Unknown) old new = Ran number Good Reached allows (Reaching draft bytes target) Anything old new
   PublishLeaves base text target draft bytes (Err (Fault call)) old new = Ran number Good Reached allows (Partly draft bytes) Anything old new
   PublishLeaves base text target draft bytes (Err NoMemory) old new = Ran number Good Reached allows (λ steps. Partly draft bytes steps ⊎ Reaching draft bytes target steps) Anything old new

@@ -4,13 +4,13 @@ use Rattle.ice_store.specs.Places.{Parts}
 use Rattle.ice_store.specs.Calls.{Rose}
 use Rattle.ice_store.specs.declared.store.StoreErr.{StoreErr}
 use Rattle.ice_store.specs.declared.store.StoreErr.TheVariants.{Failed, Memory}
-use Rattle.commit_publish.specs.declared.steps.Call.{Call}
-use Rattle.commit_publish.specs.declared.steps.Call.TheVariants.{OnFile, OnNames}
+use Rattle.commit_publish.specs.declared.steps.FailedCall.{FailedCall}
+use Rattle.commit_publish.specs.declared.steps.FailedCall.TheVariants.{OnFile, OnNames}
 use Rattle.commit_publish.specs.declared.publish.Unwritten.{Unwritten}
 use Rattle.commit_publish.specs.declared.publish.PublishErr.{PublishErr}
 use Rattle.commit_publish.specs.declared.publish.PublishErr.TheVariants.{NameTaken, Contended, Unknown, Fault, NoMemory}
 
-abbrev pub fault_from : StoreErr → Call → PublishErr
+abbrev pub fault_from : StoreErr → FailedCall → PublishErr
 fault_from Failed call = Fault call
 fault_from Memory call = NoMemory
 
@@ -60,12 +60,12 @@ is_failed Failed = true
 is_failed Memory = false
 
 -- what the rename and the sync behind it leave where one of them did not do its work
-abbrev pub left_by_move : Call → StoreErr → Parts → Parts → List Parts → List Parts
+abbrev pub left_by_move : FailedCall → StoreErr → Parts → Parts → List Parts → List Parts
 left_by_move OnFile Failed draft target left = left ++ draft ∷ target ∷ []
 left_by_move OnFile Memory draft target left = left ++ draft ∷ []
 left_by_move OnNames cause draft target left = left ++ draft ∷ []
 
 -- and the draft's removal and its sync
-abbrev pub left_by_drop : Call → Parts → List Parts → List Parts
+abbrev pub left_by_drop : FailedCall → Parts → List Parts → List Parts
 left_by_drop OnFile draft left = left ++ draft ∷ []
 left_by_drop OnNames draft left = left

@@ -4,7 +4,7 @@ use Rattle.ice_store.specs.Places.{Parts}
 use Rattle.ice_store.specs.Files.{find, is_named}
 use Rattle.ice_store.specs.History.{Disk, replay}
 use Rattle.ice_store.specs.Calls.{IsCreation}
-use Rattle.ice_store.specs.declared.history.Change.{Change}
+use Rattle.ice_store.specs.declared.history.NameChange.{NameChange}
 use Rattle.ice_store.specs.declared.history.Held.{Held}
 use Rattle.ice_store.specs.declared.history.Past.{Past}
 use Rattle.ice_store.specs.declared.history.Step.{Step}
@@ -23,11 +23,11 @@ abbrev pub NoReach : ReachBy
 NoReach bytes sealed place = ⊥
 
 -- only creations are pending
-abbrev pub Creating : List Change → Type 0
+abbrev pub Creating : List NameChange → Type 0
 Creating changes = Each IsCreation changes
 
 -- nothing is pending
-abbrev pub AtRest : List Change → Type 0
+abbrev pub AtRest : List NameChange → Type 0
 AtRest changes = changes ≡ []
 
 -- the draft is no version place, and the target is the version place after the base
@@ -37,7 +37,7 @@ pub record Aim (number : Parts → ℕ) (draft base target : Parts) : Type 0 whe
   pub next : number target ≡ number base + 1
 
 -- the base is the last version, or the target is taken
-pub record Stage (number : Parts → ℕ) (base : Parts) (target : Parts) (Pending : List Change → Type 0) (File : List Held → Type 0) (d : Disk) : Type 0 where
+pub record Stage (number : Parts → ℕ) (base : Parts) (target : Parts) (Pending : List NameChange → Type 0) (File : List Held → Type 0) (d : Disk) : Type 0 where
   pub pending : Pending d.pending
   pub last_or_taken : (version number d.files ≡ number base) ⊎ (is_named d.files target ≡ true)
   pub file : File d.files
@@ -63,8 +63,8 @@ pub record IsLost (target : Parts) (d : Disk) : Type 0 where
   pub at_rest : d.pending ≡ []
   pub taken : is_named d.files target ≡ true
 
-abbrev pub At : (Disk → Type 0) → Past → Type 0
-At K past = K (replay past)
+abbrev pub InState : (Disk → Type 0) → Past → Type 0
+InState K past = K (replay past)
 
 abbrev pub Anything : Past → Type 0
 Anything past = Unit {0}

@@ -4,13 +4,13 @@ ghost use Rattle.ice_store.specs.Others.{WhereTold};
 ghost use Rattle.ice_store.specs.Since.{Since};
 ghost use Rattle.commit_history.specs.Mannered.{IsMannered};
 ghost use Rattle.commit_history.specs.Versions.{number_in};
-ghost use Rattle.commit_publish.specs.Stages.{Narrow, NoReach, Creating, AtRest, Aim, Stage, NoFile, HasDraft, At};
+ghost use Rattle.commit_publish.specs.Stages.{Narrow, NoReach, Creating, AtRest, Aim, Stage, NoFile, HasDraft, InState};
 ghost use Rattle.commit_publish.specs.Leaves.{PublishLeaves, FinishLeaves, WriteLeaves, Halts};
 ghost use Rattle.ice_store.specs.Calls.{Rose};
 ghost use Rattle.commit_publish.specs.Left.{Leaves, Notes, IsNaming, TellsRename, draft_if, committed_count};
 ghost use Rattle.commit_publish.specs.Logs.{PublishRose, WriteRose, IsMadeBy, LeftBy, committed_by, left_by_move, left_by_drop, is_failed, fault_from, unknown_from};
 
-use crate::steps::{Call, CallErr, Format, Route, drop_draft, fill_draft, make_draft, move_draft};
+use crate::steps::{FailedCall, StepErr, Format, Route, drop_draft, fill_draft, make_draft, move_draft};
 use ice_store::{Made, Manners, Moved, Place, Store, StoreErr};
 
 /// What a run has published, and what files of its own it may have left behind.
@@ -32,11 +32,11 @@ pub enum PublishErr {
     /// The rename, or the sync behind it, failed.
     Unknown,
     /// Another call failed.
-    Fault(Call),
+    Fault(FailedCall),
     NoMemory,
 }
 
-fn fault_of(e: CallErr) -> PublishErr
+fn fault_of(e: StepErr) -> PublishErr
     ensures { result ≡ fault_from e.cause e.call }
 {
     match e.cause {
@@ -45,7 +45,7 @@ fn fault_of(e: CallErr) -> PublishErr
     }
 }
 
-fn unknown_of(e: CallErr) -> PublishErr
+fn unknown_of(e: StepErr) -> PublishErr
     ensures { result ≡ unknown_from e.cause }
 {
     match e.cause {
@@ -84,7 +84,7 @@ fn write_draft<F: Format, M: Manners, S: Store<M>>(
 ) -> Result<(), Unwritten>
     requires mannered { IsMannered (number_in route.now.table) (Narrow F.reads route.now.table) NoReach (M.allows (S.manners store.old)) }
     requires aim { Aim (number_in route.now.table) route.now.draft route.now.base route.now.target }
-    requires start { WhereTold (S.past store.old) (At (Stage (number_in route.now.table) route.now.base route.now.target Creating NoFile)) }
+    requires start { WhereTold (S.past store.old) (InState (Stage (number_in route.now.table) route.now.base route.now.target Creating NoFile)) }
     ensures told { Since (S.past store.old) (S.past store.new) (WriteLeaves (number_in route.now.table) (Narrow F.reads route.now.table) NoReach (M.allows (S.manners store.old)) route.now.base route.now.target route.now.draft bytes.now result) }
     ensures manners { S.manners store.new ≡ S.manners store.old }
     ensures cause { WriteRose result (S.faults store.old) (S.faults store.new) }
@@ -114,7 +114,7 @@ pub fn publish<F: Format, M: Manners, S: Store<M>>(
 ) -> Result<(), PublishErr>
     requires mannered { IsMannered (number_in route.now.table) (Narrow F.reads route.now.table) NoReach (M.allows (S.manners store.old)) }
     requires aim { Aim (number_in route.now.table) route.now.draft route.now.base route.now.target }
-    requires start { WhereTold (S.past store.old) (At (Stage (number_in route.now.table) route.now.base route.now.target Creating NoFile)) }
+    requires start { WhereTold (S.past store.old) (InState (Stage (number_in route.now.table) route.now.base route.now.target Creating NoFile)) }
     requires reads { F.reads route.now.table bytes.now }
     ensures told { Since (S.past store.old) (S.past store.new) (PublishLeaves (number_in route.now.table) (Narrow F.reads route.now.table) NoReach (M.allows (S.manners store.old)) route.now.base route.now.text route.now.target route.now.draft bytes.now result) }
     ensures manners { S.manners store.new ≡ S.manners store.old }
@@ -144,27 +144,27 @@ pub fn publish<F: Format, M: Manners, S: Store<M>>(
 }
 
 // a failed rename leaves either name
-fn note_move(log: &mut Log, e: CallErr, draft: Place, target: Place)
+fn note_move(log: &mut Log, e: StepErr, draft: Place, target: Place)
     requires { vec_len log.old.left + 2 ≤ vec_capacity log.old.left }
     ensures left { log.new.left.items ≡ left_by_move e.call e.cause draft target log.old.left.items }
     ensures committed { log.new.committed ≡ log.old.committed }
 {
     log.left.push_reserved(draft);
     match (e.call, e.cause) {
-        (Call::OnFile, StoreErr::Failed) => log.left.push_reserved(target),
+        (FailedCall::OnFile, StoreErr::Failed) => log.left.push_reserved(target),
         _ => {}
     }
 }
 
 // where only the sync behind the removal failed, the draft is gone
-fn note_drop(log: &mut Log, e: CallErr, draft: Place)
+fn note_drop(log: &mut Log, e: StepErr, draft: Place)
     requires { vec_len log.old.left + 1 ≤ vec_capacity log.old.left }
     ensures left { log.new.left.items ≡ left_by_drop e.call draft log.old.left.items }
     ensures committed { log.new.committed ≡ log.old.committed }
 {
     match e.call {
-        Call::OnFile => log.left.push_reserved(draft),
-        Call::OnNames => {}
+        FailedCall::OnFile => log.left.push_reserved(draft),
+        FailedCall::OnNames => {}
     }
 }
 
@@ -180,7 +180,7 @@ fn finish<F: Format, M: Manners, S: Store<M>>(
 ) -> Result<(), PublishErr>
     requires mannered { IsMannered (number_in route.now.table) (Narrow F.reads route.now.table) NoReach (M.allows (S.manners store.old)) }
     requires aim { Aim (number_in route.now.table) route.now.draft route.now.base route.now.target }
-    requires start { WhereTold (S.past store.old) (At (Stage (number_in route.now.table) route.now.base route.now.target AtRest (HasDraft route.now.draft true bytes.now))) }
+    requires start { WhereTold (S.past store.old) (InState (Stage (number_in route.now.table) route.now.base route.now.target AtRest (HasDraft route.now.draft true bytes.now))) }
     requires reads { F.reads route.now.table bytes.now }
     requires names { (draft ≡ route.now.draft) × (target ≡ route.now.target) }
     requires committed_room { vec_len log.old.committed + 1 ≤ vec_capacity log.old.committed }

@@ -5,7 +5,7 @@ ghost use Rattle.ice_store.specs.Others.{WhereTold};
 ghost use Rattle.ice_store.specs.Since.{Since};
 ghost use Rattle.commit_history.specs.Mannered.{IsMannered};
 ghost use Rattle.commit_history.specs.Versions.{number_in};
-ghost use Rattle.commit_publish.specs.Stages.{Narrow, NoReach, Creating, AtRest, Aim, Stage, NoFile, HasDraft, IsTaken, At};
+ghost use Rattle.commit_publish.specs.Stages.{Narrow, NoReach, Creating, AtRest, Aim, Stage, NoFile, HasDraft, IsTaken, InState};
 ghost use Rattle.commit_publish.specs.Leaves.{MakeLeaves, FillLeaves, MoveLeaves, DropLeaves, CallRose, Halts};
 
 use ice_store::{Bytes, Made, Manners, Moved, Place, Store, StoreErr};
@@ -30,7 +30,7 @@ pub struct Route {
 
 /// What a store call of a publish works on.
 #[derive(Debug, Clone, Copy, PartialEq, Eq)]
-pub enum Call {
+pub enum FailedCall {
     /// The new metadata file.
     OnFile,
     /// The names of the directory.
@@ -39,25 +39,25 @@ pub enum Call {
 
 /// A store call that did not do its work.
 #[derive(Debug, Clone, Copy, PartialEq, Eq)]
-pub struct CallErr {
-    pub call: Call,
+pub struct StepErr {
+    pub call: FailedCall,
     pub cause: StoreErr,
 }
 
-fn on_file(cause: StoreErr) -> CallErr
-    ensures { result ≡ record { call = Call.OnFile; cause = cause } }
+fn on_file(cause: StoreErr) -> StepErr
+    ensures { result ≡ record { call = FailedCall.OnFile; cause = cause } }
 {
-    CallErr {
-        call: Call::OnFile,
+    StepErr {
+        call: FailedCall::OnFile,
         cause,
     }
 }
 
-fn on_names(cause: StoreErr) -> CallErr
-    ensures { result ≡ record { call = Call.OnNames; cause = cause } }
+fn on_names(cause: StoreErr) -> StepErr
+    ensures { result ≡ record { call = FailedCall.OnNames; cause = cause } }
 {
-    CallErr {
-        call: Call::OnNames,
+    StepErr {
+        call: FailedCall::OnNames,
         cause,
     }
 }
@@ -66,10 +66,10 @@ fn on_names(cause: StoreErr) -> CallErr
 pub fn make_draft<F: Format, M: Manners, S: Store<M>>(
     store: &mut S,
     route: &Route,
-) -> Result<Made, CallErr>
+) -> Result<Made, StepErr>
     requires mannered { IsMannered (number_in route.now.table) (Narrow F.reads route.now.table) NoReach (M.allows (S.manners store.old)) }
     requires aim { Aim (number_in route.now.table) route.now.draft route.now.base route.now.target }
-    requires start { WhereTold (S.past store.old) (At (Stage (number_in route.now.table) route.now.base route.now.target Creating NoFile)) }
+    requires start { WhereTold (S.past store.old) (InState (Stage (number_in route.now.table) route.now.base route.now.target Creating NoFile)) }
     ensures told { Since (S.past store.old) (S.past store.new) (MakeLeaves (number_in route.now.table) (Narrow F.reads route.now.table) NoReach (M.allows (S.manners store.old)) route.now.base route.now.target route.now.draft result) }
     ensures manners { S.manners store.new ≡ S.manners store.old }
     ensures cause { CallRose result (S.faults store.old) (S.faults store.new) }
@@ -87,10 +87,10 @@ pub fn fill_draft<F: Format, M: Manners, S: Store<M>>(
     store: &mut S,
     route: &Route,
     bytes: &[u8],
-) -> Result<(), CallErr>
+) -> Result<(), StepErr>
     requires mannered { IsMannered (number_in route.now.table) (Narrow F.reads route.now.table) NoReach (M.allows (S.manners store.old)) }
     requires aim { Aim (number_in route.now.table) route.now.draft route.now.base route.now.target }
-    requires start { WhereTold (S.past store.old) (At (Stage (number_in route.now.table) route.now.base route.now.target Creating (HasDraft route.now.draft false []))) }
+    requires start { WhereTold (S.past store.old) (InState (Stage (number_in route.now.table) route.now.base route.now.target Creating (HasDraft route.now.draft false []))) }
     ensures told { Since (S.past store.old) (S.past store.new) (FillLeaves (number_in route.now.table) (Narrow F.reads route.now.table) NoReach (M.allows (S.manners store.old)) route.now.base route.now.target route.now.draft bytes.now result) }
     ensures manners { S.manners store.new ≡ S.manners store.old }
     ensures cause { CallRose result (S.faults store.old) (S.faults store.new) }
@@ -116,10 +116,10 @@ pub fn move_draft<F: Format, M: Manners, S: Store<M>>(
     store: &mut S,
     route: &Route,
     bytes: &[u8],
-) -> Result<Moved, CallErr>
+) -> Result<Moved, StepErr>
     requires mannered { IsMannered (number_in route.now.table) (Narrow F.reads route.now.table) NoReach (M.allows (S.manners store.old)) }
     requires aim { Aim (number_in route.now.table) route.now.draft route.now.base route.now.target }
-    requires start { WhereTold (S.past store.old) (At (Stage (number_in route.now.table) route.now.base route.now.target AtRest (HasDraft route.now.draft true bytes.now))) }
+    requires start { WhereTold (S.past store.old) (InState (Stage (number_in route.now.table) route.now.base route.now.target AtRest (HasDraft route.now.draft true bytes.now))) }
     requires reads { F.reads route.now.table bytes.now }
     ensures told { Since (S.past store.old) (S.past store.new) (MoveLeaves (number_in route.now.table) (Narrow F.reads route.now.table) NoReach (M.allows (S.manners store.old)) route.now.base route.now.text route.now.target route.now.draft bytes.now result) }
     ensures manners { S.manners store.new ≡ S.manners store.old }
@@ -143,10 +143,10 @@ pub fn drop_draft<F: Format, M: Manners, S: Store<M>>(
     store: &mut S,
     route: &Route,
     bytes: &[u8],
-) -> Result<(), CallErr>
+) -> Result<(), StepErr>
     requires mannered { IsMannered (number_in route.now.table) (Narrow F.reads route.now.table) NoReach (M.allows (S.manners store.old)) }
     requires aim { Aim (number_in route.now.table) route.now.draft route.now.base route.now.target }
-    requires start { WhereTold (S.past store.old) (At (Stage (number_in route.now.table) route.now.base route.now.target AtRest (IsTaken route.now.draft bytes.now route.now.target))) }
+    requires start { WhereTold (S.past store.old) (InState (Stage (number_in route.now.table) route.now.base route.now.target AtRest (IsTaken route.now.draft bytes.now route.now.target))) }
     ensures told { Since (S.past store.old) (S.past store.new) (DropLeaves (number_in route.now.table) (Narrow F.reads route.now.table) NoReach (M.allows (S.manners store.old)) route.now.draft route.now.target result) }
     ensures manners { S.manners store.new ≡ S.manners store.old }
     ensures cause { CallRose result (S.faults store.old) (S.faults store.new) }

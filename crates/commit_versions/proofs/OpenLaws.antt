@@ -27,7 +27,7 @@ use Rattle.commit_history.proofs.Following.{standing_disk}
 use Rattle.commit_history.proofs.ListingLaws.{listing_version}
 use Rattle.commit_history.proofs.Stepping.{them}
 use Rattle.commit_history.proofs.Running.{Kept, along_last, ran_turned, ran_then, begins, idle, new_is}
-use Rattle.commit_publish.specs.Stages.{Creating, Exactly, Anything, At}
+use Rattle.commit_publish.specs.Stages.{Creating, Exactly, Anything, InState}
 use Rattle.commit_versions.specs.Opening.{OpenStage, IsLong, IsBeyond, IsBase, IsText, Listed as WasListed, IsOpened, FindLeaves, ReadLeaves, ReadErrOf, ReadOpened, ReadErrLeaves, FoundStage, FoundLeaves, OpenLeaves, file_limit, version_limit}
 use Rattle.commit_versions.specs.Latest.{IsFound}
 use Rattle.commit_versions.proofs.BeyondLaws.{is_beyond}
@@ -40,7 +40,7 @@ use Rattle.commit_versions.specs.declared.types.OpenErr.{OpenErr}
 use Rattle.commit_versions.specs.declared.types.OpenErr.TheVariants.{NoTable, LocationDiffers, Read}
 use Rattle.commit_versions.specs.declared.types.Found.{Found}
 use Rattle.commit_versions.specs.declared.types.Found.TheVariants.{NoVersion, Base, Beyond}
-use Rattle.commit_versions.specs.declared.types.Text.TheVariants as texts
+use Rattle.commit_versions.specs.declared.types.VersionFile.TheVariants as texts
 
 -- a prefix that isn't full is all there is
 take_short : (n : ℕ) (l : List ℕ) → length (take n l) < n → take n l ≡ l
@@ -62,10 +62,10 @@ module _ (number : Parts → ℕ) (Good : GoodBy) (Reached : ReachBy) (allows : 
   RR = Ran number Good Reached allows
 
   abbrev pub KC : Past → Type 0
-  KC = At (λ d. Creating d.pending)
+  KC = InState (λ d. Creating d.pending)
 
   abbrev pub KO : Parts → Past → Type 0
-  KO base = At (OpenStage number base)
+  KO base = InState (OpenStage number base)
 
   abbrev pub Kp : (Past → Type 0) → Type 0
   Kp = Kept number Good Reached allows ruled localized mannered
@@ -166,9 +166,9 @@ module _ (number : Parts → ℕ) (Good : GoodBy) (Reached : ReachBy) (allows : 
       is_base below = record { positive = pos; below = below; run = at_listing; last = last_base; named = base_named; sealed = base_at }
 
     pub found_ok : (f : Found) → IsFound number listed f → FindLeaves number Good Reached allows (Ok f) old now
-    found_ok NoVersion none = turn KC (At (λ d. version number d.files ≡ 0)) old now l.run (λ h. last_is ∙ none)
+    found_ok NoVersion none = turn KC (InState (λ d. version number d.files ≡ 0)) old now l.run (λ h. last_is ∙ none)
     found_ok (Base base v) (is, greatest_is) = is_base base (omega (arith, is.is, is.positive)) (is.is ∙ greatest_is) (omega (arith, is.is, is.below))
-    found_ok (Beyond place) (beyond, all) = turn KC (At (λ d. IsBeyond number place d.files)) old now l.run (λ h. is_beyond dir number within (replay now).files listed l.is place beyond (record { place = place; ms = 0; size = 0 }) (omega (arith, all, last_is)))
+    found_ok (Beyond place) (beyond, all) = turn KC (InState (λ d. IsBeyond number place d.files)) old now l.run (λ h. is_beyond dir number within (replay now).files listed l.is place beyond (record { place = place; ms = 0; size = 0 }) (omega (arith, all, last_is)))
 
   pub find_ok : (dir : Parts) (within : (p : Parts) → 0 < number p → is_under p dir ≡ true) (listed : List Listed) (f : Found) → IsFound number listed f → (old now new : Past) → RR (Exactly []) KC old now
       → Answered allows now (Some new) (NamesAnswer dir (Ok listed)) → FindLeaves number Good Reached allows (Ok f) old new
@@ -200,8 +200,8 @@ module _ (number : Parts → ℕ) (Good : GoodBy) (Reached : ReachBy) (allows : 
     absent_by None n e = refl
     absent_by (Some h) n e = absurd (cc (e))
 
-    pub read_absent : (n : ℕ) (old new : Past) → KO base old → Answered allows old (Some new) (ReadAnswer base 0 n (Ok None)) → RR (Exactly []) (At (λ d. is_named d.files base ≡ false)) old new
-    read_absent n old new here told = turn (KO base) (At (λ d. is_named d.files base ≡ false)) old new (read_run n None old new here told) (λ k. absent_by (find (replay new).files base) n (read_at_new n None old new here told))
+    pub read_absent : (n : ℕ) (old new : Past) → KO base old → Answered allows old (Some new) (ReadAnswer base 0 n (Ok None)) → RR (Exactly []) (InState (λ d. is_named d.files base ≡ false)) old new
+    read_absent n old new here told = turn (KO base) (InState (λ d. is_named d.files base ≡ false)) old new (read_run n None old new here told) (λ k. absent_by (find (replay new).files base) n (read_at_new n None old new here told))
 
     -- a file whose first bytes are these
     pub record Fronts (n : ℕ) (text : List ℕ) (fs : List Held) : Type 0 where
@@ -242,7 +242,7 @@ module _ (number : Parts → ℕ) (Good : GoodBy) (Reached : ReachBy) (allows : 
       long : limit < length text → ReadLeaves number Good Reached allows base (Ok texts.TooLong) old new
       long lt =
           let f = fronts limit n more text old new here told in
-          turn (KO base) (At (λ d. IsLong base d.files)) old new (read_run n (Some text) old new here told)
+          turn (KO base) (InState (λ d. IsLong base d.files)) old new (read_run n (Some text) old new here told)
           (λ k. record { file = f.file; stands = f.stands; long = subst (λ (m : ℕ). m < length f.file.bytes) same_limit (longer limit n more text old new here told lt) })
 
       whole : length text ≤ limit → ReadLeaves number Good Reached allows base (Ok (texts.Whole text)) old new
@@ -288,9 +288,9 @@ module _ (number : Parts → ℕ) (Good : GoodBy) (Reached : ReachBy) (allows : 
 
   module _ (table base : Parts) (old mid new : Past) (b : IsBase number Good Reached allows base old mid) where
     read_err_by : (e : ReadErr) → ReadErrOf number Good Reached allows base e mid new → ReadErrLeaves number Good Reached allows e old new
-    read_err_by (Missing place) r = subst (λ (p : Parts). WasListed number Good Reached allows p (At (λ d. is_named d.files p ≡ false)) old new) (sym r.0) (listed_then base (At (λ d. is_named d.files base ≡ false)) old mid new b r.1)
+    read_err_by (Missing place) r = subst (λ (p : Parts). WasListed number Good Reached allows p (InState (λ d. is_named d.files p ≡ false)) old new) (sym r.0) (listed_then base (InState (λ d. is_named d.files base ≡ false)) old mid new b r.1)
     read_err_by (Damaged place at) r = absurd r
-    read_err_by (Unsupported place FileBytes) r = subst (λ (p : Parts). WasListed number Good Reached allows p (At (λ d. IsLong p d.files)) old new) (sym r.0) (listed_then base (At (λ d. IsLong base d.files)) old mid new b r.1)
+    read_err_by (Unsupported place FileBytes) r = subst (λ (p : Parts). WasListed number Good Reached allows p (InState (λ d. IsLong p d.files)) old new) (sym r.0) (listed_then base (InState (λ d. IsLong base d.files)) old mid new b r.1)
     read_err_by (Unsupported place VersionNumber) r = absurd r
     read_err_by (Unsupported place Codec) r = absurd r
     read_err_by (Unsupported place FormatVersion) r = absurd r
@@ -319,8 +319,8 @@ module _ (number : Parts → ℕ) (Good : GoodBy) (Reached : ReachBy) (allows : 
   pub found_then : (table : Parts) (f : Found) (r : Result Opened OpenErr) (old mid new : Past) → Found_ (Ok f) old mid → FoundLeaves number Good Reached allows table f r mid new → OpenLeaves number Good Reached allows table r old new
   found_then table NoVersion r old mid new a b =
       subst (λ (x : Result Opened OpenErr). OpenLeaves number Good Reached allows table x old new) (sym b.0)
-      (refl, subst (λ (p : Past). RR (Exactly []) (At (λ d. version number d.files ≡ 0)) old p) (sym b.1) a)
+      (refl, subst (λ (p : Past). RR (Exactly []) (InState (λ d. version number d.files ≡ 0)) old p) (sym b.1) a)
   found_then table (Base base v) r old mid new a b = opened_by table base old mid new a r b
   found_then table (Beyond place) r old mid new a b =
       subst (λ (x : Result Opened OpenErr). OpenLeaves number Good Reached allows table x old new) (sym b.0)
-      (subst (λ (p : Past). RR (Exactly []) (At (λ d. IsBeyond number place d.files)) old p) (sym b.1) a)
+      (subst (λ (p : Past). RR (Exactly []) (InState (λ d. IsBeyond number place d.files)) old p) (sym b.1) a)

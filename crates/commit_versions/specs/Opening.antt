@@ -18,12 +18,12 @@ use Rattle.commit_history.specs.Versions.{number_in, folder}
 use Rattle.commit_history.specs.Commits.{standing}
 use Rattle.commit_history.specs.Steady.{Steady}
 use Rattle.commit_history.specs.Runs.{Ran}
-use Rattle.commit_publish.specs.Stages.{Creating, Exactly, Anything, At}
+use Rattle.commit_publish.specs.Stages.{Creating, Exactly, Anything, InState}
 use Rattle.commit_versions.specs.declared.types.Opened.{Opened}
 use Rattle.commit_versions.specs.declared.types.Found.{Found}
 use Rattle.commit_versions.specs.declared.types.Found.TheVariants.{NoVersion, Base, Beyond}
-use Rattle.commit_versions.specs.declared.types.Text.{Text}
-use Rattle.commit_versions.specs.declared.types.Text.TheVariants.{Whole, TooLong, Absent}
+use Rattle.commit_versions.specs.declared.types.VersionFile.{VersionFile}
+use Rattle.commit_versions.specs.declared.types.VersionFile.TheVariants.{Whole, TooLong, Absent}
 use Rattle.commit_versions.specs.declared.types.OpenErr.{OpenErr}
 use Rattle.commit_versions.specs.declared.types.OpenErr.TheVariants.{NoTable, LocationDiffers, Read}
 
@@ -36,8 +36,8 @@ abbrev pub file_limit : ℕ
 file_limit = 67108864
 
 -- what the bytes of a read show, which asks for one more than a metadata file may have
-abbrev pub text_by : List ℕ → Text
-text_by text = if nat_lt file_limit (length text) then TooLong else Whole text
+abbrev pub version_file_of : List ℕ → VersionFile
+version_file_of text = if nat_lt file_limit (length text) then TooLong else Whole text
 
 -- only creations are pending, and the base is the last version, or each place of the next version is taken
 pub record OpenStage (number : Parts → ℕ) (base : Parts) (d : Disk) : Type 0 where
@@ -82,28 +82,28 @@ module _ (number : Parts → ℕ) (Good : GoodBy) (Reached : ReachBy) (allows : 
   pub record IsBase (base : Parts) (old now : Past) : Type 0 where
     pub positive : 0 < number base
     pub below : number base < version_limit
-    pub run : Idle (At (OpenStage number base)) old now
+    pub run : Idle (InState (OpenStage number base)) old now
     pub last : version number (replay now).files ≡ number base
     pub named : is_named (replay now).files base ≡ true
     pub sealed : Steady number Good Reached (standing number old) → (bytes : List ℕ) × (sealed_at (replay now).files base ≡ Some bytes)
 
   abbrev pub FindLeaves : Result Found StoreErr → Past → Past → Type 0
-  FindLeaves (Ok NoVersion) = Idle (At (λ d. version number d.files ≡ 0))
+  FindLeaves (Ok NoVersion) = Idle (InState (λ d. version number d.files ≡ 0))
   FindLeaves (Ok (Base base v)) = IsBase base
-  FindLeaves (Ok (Beyond place)) = Idle (At (λ d. IsBeyond number place d.files))
+  FindLeaves (Ok (Beyond place)) = Idle (InState (λ d. IsBeyond number place d.files))
   FindLeaves (Err e) = Idle Anything
 
   -- what the read found; where the file was sealed at the call, these are its bytes
   pub record IsText (base : Parts) (text : List ℕ) (old now : Past) : Type 0 where
-    pub run : Idle (At (OpenStage number base)) old now
+    pub run : Idle (InState (OpenStage number base)) old now
     pub file : FileIs base text (replay now).files
     pub short : length text ≤ file_limit
     pub sealed : (bytes : List ℕ) → sealed_at (replay old).files base ≡ Some bytes → sealed_at (replay now).files base ≡ Some text
 
-  abbrev pub ReadLeaves : Parts → Result Text StoreErr → Past → Past → Type 0
+  abbrev pub ReadLeaves : Parts → Result VersionFile StoreErr → Past → Past → Type 0
   ReadLeaves base (Ok (Whole text)) = IsText base text
-  ReadLeaves base (Ok TooLong) = Idle (At (λ d. IsLong base d.files))
-  ReadLeaves base (Ok Absent) = Idle (At (λ d. is_named d.files base ≡ false))
+  ReadLeaves base (Ok TooLong) = Idle (InState (λ d. IsLong base d.files))
+  ReadLeaves base (Ok Absent) = Idle (InState (λ d. is_named d.files base ≡ false))
   ReadLeaves base (Err e) = Idle Anything
 
   -- the last version was listed, its number within the limit, and then something held of its place
@@ -118,16 +118,16 @@ module _ (number : Parts → ℕ) (Good : GoodBy) (Reached : ReachBy) (allows : 
 
   -- an opened version: its file stood so at the read, and in a steady history it is sealed
   pub record IsOpened (base : Parts) (text : List ℕ) (old now : Past) : Type 0 where
-    pub listed : Listed base (At (OpenStage number base)) old now
+    pub listed : Listed base (InState (OpenStage number base)) old now
     pub file : FileIs base text (replay now).files
     pub short : length text ≤ file_limit
     pub sealed : Steady number Good Reached (standing number old) → sealed_at (replay now).files base ≡ Some text
 
   abbrev pub ReadErrLeaves : ReadErr → Past → Past → Type 0
-  ReadErrLeaves (Missing place) = Listed place (At (λ d. is_named d.files place ≡ false))
+  ReadErrLeaves (Missing place) = Listed place (InState (λ d. is_named d.files place ≡ false))
   ReadErrLeaves (Damaged place at) = λ old now. ⊥
-  ReadErrLeaves (Unsupported place VersionNumber) = Idle (At (λ d. IsBeyond number place d.files))
-  ReadErrLeaves (Unsupported place FileBytes) = Listed place (At (λ d. IsLong place d.files))
+  ReadErrLeaves (Unsupported place VersionNumber) = Idle (InState (λ d. IsBeyond number place d.files))
+  ReadErrLeaves (Unsupported place FileBytes) = Listed place (InState (λ d. IsLong place d.files))
   ReadErrLeaves (Unsupported place Codec) = λ old now. ⊥
   ReadErrLeaves (Unsupported place FormatVersion) = λ old now. ⊥
   ReadErrLeaves (Unsupported place Transform) = λ old now. ⊥
@@ -141,9 +141,9 @@ module _ (number : Parts → ℕ) (Good : GoodBy) (Reached : ReachBy) (allows : 
   ReadErrLeaves Memory = Idle Anything
 
   abbrev pub ReadErrOf : Parts → ReadErr → Past → Past → Type 0
-  ReadErrOf base (Missing place) old now = (place ≡ base) × Idle (At (λ d. is_named d.files base ≡ false)) old now
+  ReadErrOf base (Missing place) old now = (place ≡ base) × Idle (InState (λ d. is_named d.files base ≡ false)) old now
   ReadErrOf base (Damaged place at) old now = ⊥
-  ReadErrOf base (Unsupported place FileBytes) old now = (place ≡ base) × Idle (At (λ d. IsLong base d.files)) old now
+  ReadErrOf base (Unsupported place FileBytes) old now = (place ≡ base) × Idle (InState (λ d. IsLong base d.files)) old now
   ReadErrOf base (Unsupported place VersionNumber) old now = ⊥
   ReadErrOf base (Unsupported place Codec) old now = ⊥
   ReadErrOf base (Unsupported place FormatVersion) old now = ⊥
@@ -173,7 +173,7 @@ module _ (number : Parts → ℕ) (Good : GoodBy) (Reached : ReachBy) (allows : 
   -- what an opening leaves, by its answer
   abbrev pub OpenLeaves : Parts → Result Opened OpenErr → Past → Past → Type 0
   OpenLeaves table (Ok o) old now = IsOpened o.place o.text old now
-  OpenLeaves table (Err (NoTable place)) old now = (place ≡ table) × Idle (At (λ d. version number d.files ≡ 0)) old now
+  OpenLeaves table (Err (NoTable place)) old now = (place ≡ table) × Idle (InState (λ d. version number d.files ≡ 0)) old now
   OpenLeaves table (Err (LocationDiffers place location)) old now = ⊥
   OpenLeaves table (Err (Read e)) old now = ReadErrLeaves e old now
 

@@ -16,4 +16,4 @@ mod types;
 pub use names::{draft_place, metadata_folder, version_place, version_text};
 pub use numbers::version_number;
 pub use open::{find_version, open_version, read_version};
-pub use types::{FILE_LIMIT, Found, Latest, OpenErr, Opened, Text, VERSION_LIMIT};
+pub use types::{FILE_LIMIT, Found, Latest, OpenErr, Opened, VersionFile, VERSION_LIMIT};

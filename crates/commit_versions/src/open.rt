@@ -6,12 +6,12 @@ ghost use Rattle.ice_store.specs.Since.{Since};
 ghost use Rattle.ice_store.specs.Calls.{HasCause};
 ghost use Rattle.commit_history.specs.Mannered.{IsMannered};
 ghost use Rattle.commit_history.specs.Versions.{number_in, folder};
-ghost use Rattle.commit_publish.specs.Stages.{Narrow, NoReach, Creating, At};
+ghost use Rattle.commit_publish.specs.Stages.{Narrow, NoReach, Creating, InState};
 ghost use Rattle.commit_publish.specs.Leaves.{Halts};
-ghost use Rattle.commit_versions.specs.Opening.{OpenStage, FindLeaves, ReadLeaves, ReadOpened, FoundStage, FoundLeaves, OpenLeaves, OpenRose, OpenFaultAt, text_by};
+ghost use Rattle.commit_versions.specs.Opening.{OpenStage, FindLeaves, ReadLeaves, ReadOpened, FoundStage, FoundLeaves, OpenLeaves, OpenRose, OpenFaultAt, version_file_of};
 ghost use Rattle.commit_versions.specs.Latest.{IsLatest, IsBaseNumber, IsFound, HasBaseNumber};
 
-use crate::types::{FILE_LIMIT, Found, Latest, OpenErr, Opened, Text, VERSION_LIMIT};
+use crate::types::{FILE_LIMIT, Found, Latest, OpenErr, Opened, VersionFile, VERSION_LIMIT};
 use ice_store::{Bytes, Listed, Manners, Place, ReadErr, Store, StoreErr, What};
 use std::alloc::Global;
 use commit_publish::Format;
@@ -84,7 +84,7 @@ pub fn find_version<F: Format, M: Manners, S: Store<M>>(
 ) -> Result<Found, StoreErr>
     requires mannered { IsMannered (number_in table.now) (Narrow F.reads table.now) NoReach (M.allows (S.manners store.old)) }
     requires dir { dir.now ≡ table.now ++ folder ∷ [] }
-    requires start { WhereTold (S.past store.old) (At (λ d. Creating d.pending)) }
+    requires start { WhereTold (S.past store.old) (InState (λ d. Creating d.pending)) }
     ensures told { Since (S.past store.old) (S.past store.new) (FindLeaves (number_in table.now) (Narrow F.reads table.now) NoReach (M.allows (S.manners store.old)) result) }
     ensures numbers { IfOk result (λ f. HasBaseNumber (number_in table.now) f) }
     ensures manners { S.manners store.new ≡ S.manners store.old }
@@ -97,13 +97,13 @@ pub fn find_version<F: Format, M: Manners, S: Store<M>>(
     }
 }
 
-fn sized(text: Bytes) -> Text
-    ensures { result ≡ text_by text }
+fn sized(text: Bytes) -> VersionFile
+    ensures { result ≡ version_file_of text }
 {
     if text.len() > FILE_LIMIT {
-        Text::TooLong
+        VersionFile::TooLong
     } else {
-        Text::Whole(text)
+        VersionFile::Whole(text)
     }
 }
 
@@ -112,10 +112,10 @@ pub fn read_version<F: Format, M: Manners, S: Store<M>>(
     store: &mut S,
     table: &Place,
     place: &Place,
-) -> Result<Text, StoreErr>
+) -> Result<VersionFile, StoreErr>
     requires mannered { IsMannered (number_in table.now) (Narrow F.reads table.now) NoReach (M.allows (S.manners store.old)) }
     requires positive { 0 < number_in table.now place.now }
-    requires start { WhereTold (S.past store.old) (At (OpenStage (number_in table.now) place.now)) }
+    requires start { WhereTold (S.past store.old) (InState (OpenStage (number_in table.now) place.now)) }
     ensures told { Since (S.past store.old) (S.past store.new) (ReadLeaves (number_in table.now) (Narrow F.reads table.now) NoReach (M.allows (S.manners store.old)) place.now result) }
     ensures manners { S.manners store.new ≡ S.manners store.old }
     ensures cause { HasCause (S.faults store.old) (S.faults store.new) result }
@@ -123,7 +123,7 @@ pub fn read_version<F: Format, M: Manners, S: Store<M>>(
 {
     match store.read_at(place, 0, FILE_LIMIT + 1) {
         Ok(Some(text)) => Ok(sized(text)),
-        Ok(None) => Ok(Text::Absent),
+        Ok(None) => Ok(VersionFile::Absent),
         Err(e) => Err(e),
     }
 }
@@ -136,7 +136,7 @@ fn read_opened<F: Format, M: Manners, S: Store<M>>(
 ) -> Result<Opened, OpenErr>
     requires mannered { IsMannered (number_in table.now) (Narrow F.reads table.now) NoReach (M.allows (S.manners store.old)) }
     requires number { IsBaseNumber (number_in table.now) place version }
-    requires start { WhereTold (S.past store.old) (At (OpenStage (number_in table.now) place)) }
+    requires start { WhereTold (S.past store.old) (InState (OpenStage (number_in table.now) place)) }
     ensures told { Since (S.past store.old) (S.past store.new) (ReadOpened (number_in table.now) (Narrow F.reads table.now) NoReach (M.allows (S.manners store.old)) place result) }
     ensures numbers { IfOk result (λ o. IsBaseNumber (number_in table.now) o.place o.version) }
     ensures manners { S.manners store.new ≡ S.manners store.old }
@@ -146,16 +146,16 @@ fn read_opened<F: Format, M: Manners, S: Store<M>>(
     ensures halted { Halts result (S.halted store.old) (S.halted store.new) (S.past store.new) }
 {
     match read_version::<F, M, S>(store, table, &place) {
-        Ok(Text::Whole(text)) => Ok(Opened {
+        Ok(VersionFile::Whole(text)) => Ok(Opened {
             place,
             version,
             text,
         }),
-        Ok(Text::TooLong) => Err(OpenErr::Read(ReadErr::Unsupported {
+        Ok(VersionFile::TooLong) => Err(OpenErr::Read(ReadErr::Unsupported {
             place,
             what: What::FileBytes,
         })),
-        Ok(Text::Absent) => Err(OpenErr::Read(ReadErr::Missing { place })),
+        Ok(VersionFile::Absent) => Err(OpenErr::Read(ReadErr::Missing { place })),
         Err(StoreErr::Failed) => Err(OpenErr::Read(ReadErr::StoreFault { place })),
         Err(StoreErr::Memory) => Err(OpenErr::Read(ReadErr::Memory)),
     }
@@ -197,7 +197,7 @@ pub fn open_version<F: Format, M: Manners, S: Store<M>>(
     table: &Place,
 ) -> Result<Opened, OpenErr>
     requires mannered { IsMannered (number_in table.now) (Narrow F.reads table.now) NoReach (M.allows (S.manners store.old)) }
-    requires start { WhereTold (S.past store.old) (At (λ d. Creating d.pending)) }
+    requires start { WhereTold (S.past store.old) (InState (λ d. Creating d.pending)) }
     ensures told { Since (S.past store.old) (S.past store.new) (OpenLeaves (number_in table.now) (Narrow F.reads table.now) NoReach (M.allows (S.manners store.old)) table.now result) }
     ensures numbers { IfOk result (λ o. IsBaseNumber (number_in table.now) o.place o.version) }
     ensures manners { S.manners store.new ≡ S.manners store.old }

@@ -1,5 +1,5 @@
 //! What opening finds.
-use ice_store::{Bytes, Place, ReadErr, Text as Location};
+use ice_store::{Bytes, Place, ReadErr, Text};
 use thiserror::Error;
 
 /// The most bytes that a metadata file may have.
@@ -24,7 +24,7 @@ pub enum OpenErr {
     NoTable { place: Place },
     /// The metadata's location isn't the table's place.
     #[error("the table says another location")]
-    LocationDiffers { table: Place, location: Location },
+    LocationDiffers { table: Place, location: Text },
     #[error("a file can't be read")]
     Read(ReadErr),
 }
@@ -40,7 +40,7 @@ pub enum Found {
 
 /// What a read finds of a version file.
 #[derive(Debug, Drop)]
-pub enum Text {
+pub enum VersionFile {
     Whole(Bytes),
     TooLong,
     Absent,

@@ -9,8 +9,8 @@ use Rattle.ice_store.specs.History.{Disk}
 use Rattle.ice_store.specs.Others.{IsOurs, WhereTold}
 use Rattle.ice_store.specs.declared.history.Held.{Held}
 use Rattle.ice_store.specs.declared.history.Past.{Past}
-use Rattle.ice_store.specs.declared.history.Change.{Change}
-use Rattle.ice_store.specs.declared.history.Change.TheVariants.{Created, Renamed, Removed}
+use Rattle.ice_store.specs.declared.history.NameChange.{NameChange}
+use Rattle.ice_store.specs.declared.history.NameChange.TheVariants.{Created, Renamed, Removed}
 use Rattle.ice_store.specs.declared.history.Event.{Event}
 use Rattle.ice_store.specs.declared.history.Step.{Step}
 use Rattle.ice_store.specs.declared.history.Step.TheVariants.{Create, Append, Rename, Remove}
@@ -28,23 +28,23 @@ use Rattle.ice_store.specs.declared.store.Gone.TheVariants.{Done as Away, Absent
 -- Conditions on callers.
 
 -- the places whose names a pending change is about
-abbrev pub ChangesName : Change → Parts → Type 0
+abbrev pub ChangesName : NameChange → Parts → Type 0
 ChangesName (Created place) q = place ≡ q
 ChangesName (Renamed from to) q = (from ≡ q) ⊎ (to ≡ q)
 ChangesName (Removed held) q = held.place ≡ q
 
 -- no pending name change is of this place
-abbrev pub IsSettled : List Change → Parts → Type 0
+abbrev pub IsSettled : List NameChange → Parts → Type 0
 IsSettled [] q = Unit {0}
 IsSettled (change ∷ changes) q = (ChangesName change q → ⊥) × IsSettled changes q
 
-abbrev pub IsCreation : Change → Type 0
+abbrev pub IsCreation : NameChange → Type 0
 IsCreation (Created place) = Unit {0}
 IsCreation (Renamed from to) = ⊥
 IsCreation (Removed held) = ⊥
 
 -- no pending removal or rename is of this place
-abbrev pub IsUnmoved : List Change → Parts → Type 0
+abbrev pub IsUnmoved : List NameChange → Parts → Type 0
 IsUnmoved [] q = Unit {0}
 IsUnmoved (change ∷ changes) q = (ChangesName change q → IsCreation change) × IsUnmoved changes q
 

@@ -4,8 +4,8 @@ use Rattle.ice_store.specs.Places.{Parts}
 use Rattle.ice_store.specs.Files.{find, is_named, without, changed, put, renamed}
 use Rattle.ice_store.specs.declared.history.Held.{Held}
 use Rattle.ice_store.specs.declared.history.FileRec.{FileRec}
-use Rattle.ice_store.specs.declared.history.Change.{Change}
-use Rattle.ice_store.specs.declared.history.Change.TheVariants.{Created, Renamed, Removed}
+use Rattle.ice_store.specs.declared.history.NameChange.{NameChange}
+use Rattle.ice_store.specs.declared.history.NameChange.TheVariants.{Created, Renamed, Removed}
 use Rattle.ice_store.specs.declared.history.Event.{Event}
 use Rattle.ice_store.specs.declared.history.Past.{Past}
 use Rattle.ice_store.specs.declared.history.Step.{Step}
@@ -18,7 +18,7 @@ use Rattle.ice_store.specs.declared.history.Who.TheVariants.{Us, Them}
 -- the files by their names, and the name changes that a crash may undo
 pub record Disk : Type 0 where
   pub files : List Held
-  pub pending : List Change
+  pub pending : List NameChange
 
 abbrev pub new_file : Parts → Who → ℕ → Held
 new_file place who ms = record { place = place; bytes = []; ms = ms; is_sealed = false; maker = Some who }
@@ -38,12 +38,12 @@ files_after files (Rename from to) who ms = renamed from to files
 files_after files (Remove place) who ms = without files place
 files_after files SyncNames who ms = files
 
-abbrev pub removal : Option Held → List Change
+abbrev pub removal : Option Held → List NameChange
 removal None = []
 removal (Some held) = Removed held ∷ []
 
 -- the pending name changes after a step of Us
-abbrev pub pending_after : Disk → Step → List Change
+abbrev pub pending_after : Disk → Step → List NameChange
 pending_after d (Create place) = d.pending ++ Created place ∷ []
 pending_after d (Append place more) = d.pending
 pending_after d (Seal place) = d.pending
@@ -52,7 +52,7 @@ pending_after d (Remove place) = d.pending ++ removal (find d.files place)
 pending_after d SyncNames = []
 
 -- a step of Them is durable at once, and makes all before it durable
-abbrev pub pending_by : Who → Disk → Step → List Change
+abbrev pub pending_by : Who → Disk → Step → List NameChange
 pending_by Us d step = pending_after d step
 pending_by Them d step = []
 
@@ -82,13 +82,13 @@ later past events = record { base = past.base; events = past.events ++ events }
 -- Image.
 
 -- a change undone; a renamed file then stands under its old name alone
-abbrev pub undone : Change → List Held → List Held
+abbrev pub undone : NameChange → List Held → List Held
 undone (Created place) files = without files place
 undone (Renamed from to) files = renamed to from files
 undone (Removed held) files = put held files
 
 -- the names where each pending change is done or undone on its own, a lacking choice being undone
-abbrev pub names_by : List Bool → List Change → List Held → List Held
+abbrev pub names_by : List Bool → List NameChange → List Held → List Held
 names_by done [] files = files
 names_by [] (change ∷ changes) files = undone change (names_by [] changes files)
 names_by (is_done ∷ done) (change ∷ changes) files = if is_done then names_by done changes files else undone change (names_by done changes files)

@@ -69,7 +69,7 @@ pub struct Held {
 
 /// A name change that a crash may undo.
 #[derive(Debug, Drop, Clone)]
-pub enum Change {
+pub enum NameChange {
     Created(Place),
     Renamed(Place, Place),
     /// The file that was removed, as it stood.
@@ -94,9 +94,9 @@ impl Step {
     }
 }
 
-impl Change {
+impl NameChange {
     /// An equal change.
-    pub fn copy(&self) -> Result<Change, AllocError>
+    pub fn copy(&self) -> Result<NameChange, AllocError>
         ensures { IfOk result (λ c. c ≡ self.now) }
     {
         self.clone()

@@ -19,7 +19,7 @@ mod tests;
 mod text;
 
 pub use faults::{ReadErr, What, Where};
-pub use history::{Change, Event, EventList, FileList, FileRec, Held, Past, Step, StepList, Who};
+pub use history::{NameChange, Event, EventList, FileList, FileRec, Held, Past, Step, StepList, Who};
 pub use items::Items;
 pub use outside::{Clock, Failed, Ids, Sink};
 pub use place::{Place, PlaceErr, TextList, is_part};

@@ -1,5 +1,5 @@
 use crate::{
-    Alone, Bytes, Change, Held, Items, Neighbour, Past, Place, PlaceErr, Quiet, Step, Text, Who,
+    Alone, Bytes, NameChange, Held, Items, Neighbour, Past, Place, PlaceErr, Quiet, Step, Text, Who,
     is_part,
 };
 use std::alloc::Global;
@@ -230,7 +230,7 @@ fn records_are_copied(rt: HostRuntime) -> Result<(), Fail> {
     let file = held(alloc, "/a")?.copy()?;
     assert!(rt; file.ms == 7 && file.is_sealed && has_text(alloc, &file.place, "/a")?);
     assert!(rt; matches!(Step::Seal(place(alloc, "/a")?).copy()?, Step::Seal(_)));
-    assert!(rt; matches!(Change::Removed(file).copy()?, Change::Removed(_)));
+    assert!(rt; matches!(NameChange::Removed(file).copy()?, NameChange::Removed(_)));
     let mut items = Items::empty(alloc);
     items.push(4)?;
     items.push(5)?;

@@ -7,7 +7,7 @@ use std::{fs, io};
 
 /// Why a call of the file system didn't do its work.
 #[derive(Debug, Clone, Copy, PartialEq, Eq)]
-pub enum CallErr {
+pub enum SystemErr {
     /// Memory lacked, and nothing was changed.
     Memory,
     /// The system refused the call, or stopped in the middle of it.
@@ -16,25 +16,25 @@ pub enum CallErr {
     Unsynced,
 }
 
-impl From<AllocError> for CallErr {
+impl From<AllocError> for SystemErr {
     fn from(_: AllocError) -> Self {
-        CallErr::Memory
+        SystemErr::Memory
     }
 }
 
 /// Why a call that changes nothing failed.
-pub fn cause_of(error: io::Error) -> CallErr {
+pub fn cause_of(error: io::Error) -> SystemErr {
     match error.kind() {
-        ErrorKind::OutOfMemory => CallErr::Memory,
-        _ => CallErr::Refused,
+        ErrorKind::OutOfMemory => SystemErr::Memory,
+        _ => SystemErr::Refused,
     }
 }
 
 /// The path of a place, for the system.
-pub fn path_of(place: &Place) -> Result<String, CallErr> {
+pub fn path_of(place: &Place) -> Result<String, SystemErr> {
     match String::from_utf8(place.text()?.into_inner()) {
         Ok(path) => Ok(path),
-        Err(_) => Err(CallErr::Refused),
+        Err(_) => Err(SystemErr::Refused),
     }
 }
 
@@ -52,30 +52,30 @@ pub fn is_absent(error: &io::Error) -> bool {
 }
 
 /// What stands at a path, of whatever kind; symbolic links aren't followed.
-pub fn look(rt: &HostRuntime, path: &str) -> Result<Option<Metadata>, CallErr> {
+pub fn look(rt: &HostRuntime, path: &str) -> Result<Option<Metadata>, SystemErr> {
     match fs::symlink_metadata(rt, path) {
         Ok(found) => Ok(Some(found)),
         Err(e) if is_absent(&e) => Ok(None),
-        Err(_) => Err(CallErr::Refused),
+        Err(_) => Err(SystemErr::Refused),
     }
 }
 
 /// The regular file that stands at a path. Anything else there is refused, so that no caller takes the place for free or
 /// reaches another file through a link.
-pub fn look_for_file(rt: &HostRuntime, path: &str) -> Result<Option<Metadata>, CallErr> {
+pub fn look_for_file(rt: &HostRuntime, path: &str) -> Result<Option<Metadata>, SystemErr> {
     match look(rt, path)? {
-        Some(found) if !found.is_file() => Err(CallErr::Refused),
+        Some(found) if !found.is_file() => Err(SystemErr::Refused),
         found => Ok(found),
     }
 }
 
 /// The length in bytes of the regular file that stands at a path.
-pub fn size_of(rt: &HostRuntime, path: &str) -> Result<Option<u64>, CallErr> {
+pub fn size_of(rt: &HostRuntime, path: &str) -> Result<Option<u64>, SystemErr> {
     Ok(look_for_file(rt, path)?.map(|found| found.len()))
 }
 
 /// Whether a regular file stands at a path.
-pub fn is_file(rt: &HostRuntime, path: &str) -> Result<bool, CallErr> {
+pub fn is_file(rt: &HostRuntime, path: &str) -> Result<bool, SystemErr> {
     Ok(look_for_file(rt, path)?.is_some())
 }
 
@@ -85,27 +85,27 @@ pub fn read_part(
     path: &str,
     from: u64,
     len: usize,
-) -> Result<Option<Bytes>, CallErr> {
+) -> Result<Option<Bytes>, SystemErr> {
     if !is_file(rt, path)? {
         return Ok(None);
     }
     match File::open(rt, path) {
         Ok(mut file) => Ok(Some(part_of(rt.alloc(), &mut file, from, len)?)),
         Err(e) if is_absent(&e) => Ok(None),
-        Err(_) => Err(CallErr::Refused),
+        Err(_) => Err(SystemErr::Refused),
     }
 }
 
-fn part_of(alloc: Global, file: &mut File, from: u64, len: usize) -> Result<Bytes, CallErr> {
+fn part_of(alloc: Global, file: &mut File, from: u64, len: usize) -> Result<Bytes, SystemErr> {
     let Ok(found) = file.metadata() else {
-        return Err(CallErr::Refused);
+        return Err(SystemErr::Refused);
     };
     // what the file has behind the offset, so that a large `len` takes no more room
     let left = found.len().saturating_sub(from);
     let room = usize::try_from(left).unwrap_or(usize::MAX).min(len);
     let mut bytes = vec![in alloc; 0u8; room]?;
     if room > 0 && file.seek(SeekFrom::Start(from)).is_err() {
-        return Err(CallErr::Refused);
+        return Err(SystemErr::Refused);
     }
     let filled = fill(file, bytes.as_mut_slice())?;
     bytes.truncate(filled);
@@ -113,7 +113,7 @@ fn part_of(alloc: Global, file: &mut File, from: u64, len: usize) -> Result<Byte
 }
 
 /// Reads until the buffer is full or the file ends; answers how many bytes were read.
-pub fn fill<R: Read>(file: &mut R, buffer: &mut [u8]) -> Result<usize, CallErr> {
+pub fn fill<R: Read>(file: &mut R, buffer: &mut [u8]) -> Result<usize, SystemErr> {
     let mut filled = 0;
     for _ in 0..u64::MAX {
         if filled >= buffer.len() {
@@ -123,25 +123,25 @@ pub fn fill<R: Read>(file: &mut R, buffer: &mut [u8]) -> Result<usize, CallErr> 
             Ok(0) => return Ok(filled),
             Ok(n) => filled += n,
             Err(e) if e.kind() == ErrorKind::Interrupted => {}
-            Err(_) => return Err(CallErr::Refused),
+            Err(_) => return Err(SystemErr::Refused),
         }
     }
-    Err(CallErr::Refused)
+    Err(SystemErr::Refused)
 }
 
 /// Writes all of the bytes, or fails after a prefix of them. A write that takes nothing is a failure.
-pub fn write_whole<W: Write>(out: &mut W, bytes: &[u8]) -> Result<(), CallErr> {
+pub fn write_whole<W: Write>(out: &mut W, bytes: &[u8]) -> Result<(), SystemErr> {
     let mut rest = bytes;
     for _ in 0..u64::MAX {
         if rest.is_empty() {
             return Ok(());
         }
         match out.write(rest) {
-            Ok(0) => return Err(CallErr::Refused),
+            Ok(0) => return Err(SystemErr::Refused),
             Ok(n) => rest = &rest[n..],
             Err(e) if e.kind() == ErrorKind::Interrupted => {}
-            Err(_) => return Err(CallErr::Refused),
+            Err(_) => return Err(SystemErr::Refused),
         }
     }
-    Err(CallErr::Refused)
+    Err(SystemErr::Refused)
 }

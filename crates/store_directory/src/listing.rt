@@ -1,5 +1,5 @@
 //! The regular files under a directory.
-use crate::calls::{CallErr, cause_of, is_absent, look, path_of};
+use crate::calls::{SystemErr, cause_of, is_absent, look, path_of};
 use crate::clock::ms_since_1970;
 use ice_store::{Items, Listed, ListedList, Place, is_part};
 use std::fs;
@@ -8,7 +8,7 @@ use std::fs::Metadata;
 /// All regular files under a place, at any depth, in place order, without the file at the path `hidden`. Symbolic links
 /// are neither followed nor listed, and what is gone before it is looked at isn't listed. A name that isn't UTF-8 is
 /// refused.
-pub fn files_under(rt: &HostRuntime, dir: &Place, hidden: &str) -> Result<ListedList, CallErr> {
+pub fn files_under(rt: &HostRuntime, dir: &Place, hidden: &str) -> Result<ListedList, SystemErr> {
     let mut found = Vec::new(rt.alloc());
     let mut waiting = Vec::new(rt.alloc());
     add_place(dir.copy()?, &mut waiting)?;
@@ -18,7 +18,7 @@ pub fn files_under(rt: &HostRuntime, dir: &Place, hidden: &str) -> Result<Listed
             None => return Ok(in_place_order(found)),
         }
     }
-    Err(CallErr::Refused)
+    Err(SystemErr::Refused)
 }
 
 fn in_place_order(mut found: Vec<Listed>) -> ListedList {
@@ -33,7 +33,7 @@ fn visit(
     hidden: &str,
     waiting: &mut Vec<Place>,
     found: &mut Vec<Listed>,
-) -> Result<(), CallErr> {
+) -> Result<(), SystemErr> {
     let path = path_of(&place)?;
     match look(rt, path.as_str())? {
         Some(seen) if seen.is_dir() => add_children(rt, &place, path.as_str(), waiting),
@@ -61,7 +61,7 @@ fn add_children(
     dir: &Place,
     path: &str,
     waiting: &mut Vec<Place>,
-) -> Result<(), CallErr> {
+) -> Result<(), SystemErr> {
     let entries = match fs::read_dir(rt, path) {
         Ok(entries) => entries,
         Err(e) if is_absent(&e) => return Ok(()),
@@ -76,23 +76,23 @@ fn add_children(
     Ok(())
 }
 
-fn add_child(dir: &Place, name: &[u8], waiting: &mut Vec<Place>) -> Result<(), CallErr> {
+fn add_child(dir: &Place, name: &[u8], waiting: &mut Vec<Place>) -> Result<(), SystemErr> {
     if !is_part(name) {
-        return Err(CallErr::Refused);
+        return Err(SystemErr::Refused);
     }
     add_place(dir.child(name)?, waiting)
 }
 
-fn add_place(place: Place, waiting: &mut Vec<Place>) -> Result<(), CallErr> {
+fn add_place(place: Place, waiting: &mut Vec<Place>) -> Result<(), SystemErr> {
     match waiting.push(place) {
         Ok(()) => Ok(()),
-        Err(_) => Err(CallErr::Memory),
+        Err(_) => Err(SystemErr::Memory),
     }
 }
 
-fn add_listed(place: Place, seen: &Metadata, found: &mut Vec<Listed>) -> Result<(), CallErr> {
+fn add_listed(place: Place, seen: &Metadata, found: &mut Vec<Listed>) -> Result<(), SystemErr> {
     match found.push(listed(place, seen)) {
         Ok(()) => Ok(()),
-        Err(_) => Err(CallErr::Memory),
+        Err(_) => Err(SystemErr::Memory),
     }
 }

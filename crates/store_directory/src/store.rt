@@ -2,7 +2,7 @@
 ghost use Rattle.std.specs.Prelude.{◌≡◌, None, IfOk};
 ghost use Rattle.ice_store.specs.Calls.{HasCause};
 
-use crate::calls::{CallErr, path_of, read_part, size_of};
+use crate::calls::{SystemErr, path_of, read_part, size_of};
 use crate::changes::{
     Directories, append_to, create_file, remove_file, rename_file, sync_directories, sync_file,
 };
@@ -47,13 +47,13 @@ impl<M: Drop> DirStore<M> {
                 manners,
                 faults: 0,
             }),
-            Err(CallErr::Memory) => Err(StoreErr::Memory),
+            Err(SystemErr::Memory) => Err(StoreErr::Memory),
             Err(_) => Err(StoreErr::Failed),
         }
     }
 }
 
-fn lock_path(table: &Place) -> Result<String, CallErr> {
+fn lock_path(table: &Place) -> Result<String, SystemErr> {
     let mut path = path_of(table)?;
     if path.as_str() == "/" {
         path.clear();
@@ -64,52 +64,52 @@ fn lock_path(table: &Place) -> Result<String, CallErr> {
 
 impl<M> DirStore<M> {
     // Passes an answer on, and counts it where the system refused.
-    fn answer<T>(&mut self, done: Result<T, CallErr>) -> Result<T, StoreErr>
+    fn answer<T>(&mut self, done: Result<T, SystemErr>) -> Result<T, StoreErr>
         ensures cause { HasCause self.old.faults self.new.faults result }
         ensures manners { self.new.manners ≡ self.old.manners }
     {
         let error = match done {
             Ok(value) => return Ok(value),
-            Err(CallErr::Memory) => return Err(StoreErr::Memory),
+            Err(SystemErr::Memory) => return Err(StoreErr::Memory),
             Err(error) => error,
         };
-        self.is_sync_lost = self.is_sync_lost || error == CallErr::Unsynced;
+        self.is_sync_lost = self.is_sync_lost || error == SystemErr::Unsynced;
         self.faults = self.faults.saturating_add(1);
         Err(StoreErr::Failed)
     }
 
-    fn append_whole(&self, place: &Place, bytes: &[u8]) -> Result<(), CallErr> {
+    fn append_whole(&self, place: &Place, bytes: &[u8]) -> Result<(), SystemErr> {
         append_to(&self.rt, path_of(place)?.as_str(), bytes)
     }
 
-    fn seal_file(&self, place: &Place) -> Result<(), CallErr> {
+    fn seal_file(&self, place: &Place) -> Result<(), SystemErr> {
         if self.is_sync_lost {
-            return Err(CallErr::Refused);
+            return Err(SystemErr::Refused);
         }
         sync_file(&self.rt, path_of(place)?.as_str())
     }
 
-    fn size_at(&self, place: &Place) -> Result<Option<u64>, CallErr> {
+    fn size_at(&self, place: &Place) -> Result<Option<u64>, SystemErr> {
         size_of(&self.rt, path_of(place)?.as_str())
     }
 
-    fn part_at(&self, place: &Place, from: u64, len: usize) -> Result<Option<Bytes>, CallErr> {
+    fn part_at(&self, place: &Place, from: u64, len: usize) -> Result<Option<Bytes>, SystemErr> {
         read_part(&self.rt, path_of(place)?.as_str(), from, len)
     }
 
-    fn sync_changed(&self) -> Result<(), CallErr> {
+    fn sync_changed(&self) -> Result<(), SystemErr> {
         if self.is_sync_lost {
-            return Err(CallErr::Refused);
+            return Err(SystemErr::Refused);
         }
         sync_directories(&self.rt, &self.changed)
     }
 }
 
-fn create_at(rt: &HostRuntime, place: &Place, changed: &mut Directories) -> Result<Made, CallErr> {
+fn create_at(rt: &HostRuntime, place: &Place, changed: &mut Directories) -> Result<Made, SystemErr> {
     create_file(rt, path_of(place)?.as_str(), changed)
 }
 
-fn remove_at(rt: &HostRuntime, place: &Place, changed: &mut Directories) -> Result<Gone, CallErr> {
+fn remove_at(rt: &HostRuntime, place: &Place, changed: &mut Directories) -> Result<Gone, SystemErr> {
     remove_file(rt, path_of(place)?.as_str(), changed)
 }
 
@@ -119,7 +119,7 @@ fn rename_to(
     to: &Place,
     lock: &str,
     changed: &mut Directories,
-) -> Result<Moved, CallErr> {
+) -> Result<Moved, SystemErr> {
     let from = path_of(from)?;
     let to = path_of(to)?;
     rename_file(rt, from.as_str(), to.as_str(), lock, changed)

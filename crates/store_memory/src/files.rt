@@ -6,7 +6,7 @@ ghost use Rattle.ice_store.specs.Places.{same_place};
 ghost use Rattle.ice_store.specs.Files.{find, without, changed, renamed};
 ghost use Rattle.ice_store.specs.History.{appended, sealed, files_after, pending_by, base_from};
 
-use ice_store::{Bytes, Change, FileRec, Held, Listed, Place, Step, Who};
+use ice_store::{Bytes, NameChange, FileRec, Held, Listed, Place, Step, Who};
 use std::alloc::{AllocError, Global};
 
 /// The file at a place.
@@ -74,7 +74,7 @@ pub fn copy_files(files: &Vec<Held>) -> Result<Vec<Held>, AllocError>
     files.clone()
 }
 
-fn copy_changes(alloc: Global, changes: &[Change]) -> Result<Vec<Change>, AllocError>
+fn copy_changes(alloc: Global, changes: &[NameChange]) -> Result<Vec<NameChange>, AllocError>
     ensures { IfOk result (λ v. v.items ≡ changes.now) }
 {
     let mut next = Vec::new(alloc);
@@ -119,10 +119,10 @@ pub fn next_files(
 pub fn next_pending(
     alloc: Global,
     files: &Vec<Held>,
-    pending: &Vec<Change>,
+    pending: &Vec<NameChange>,
     step: &Step,
     who: Who,
-) -> Result<Vec<Change>, AllocError>
+) -> Result<Vec<NameChange>, AllocError>
     ensures { IfOk result (λ v. v.items ≡ pending_by who (record { files = files.now.items; pending = pending.now.items }) step.now) }
 {
     if who == Who::Them {
@@ -130,11 +130,11 @@ pub fn next_pending(
     }
     let mut next = copy_changes(alloc, pending)?;
     match step {
-        Step::Create(place) => next.push(Change::Created(place.copy()?))?,
-        Step::Rename(from, to) => next.push(Change::Renamed(from.copy()?, to.copy()?))?,
+        Step::Create(place) => next.push(NameChange::Created(place.copy()?))?,
+        Step::Rename(from, to) => next.push(NameChange::Renamed(from.copy()?, to.copy()?))?,
         Step::Remove(place) => {
             if let Some(held) = find_file(files, place) {
-                next.push(Change::Removed(held.copy()?))?;
+                next.push(NameChange::Removed(held.copy()?))?;
             }
         }
         Step::Append(_, _) | Step::Seal(_) => {}

@@ -6,7 +6,7 @@ ghost use Rattle.ice_store.specs.History.{undone, names_by, settled};
 ghost use Rattle.store_memory.specs.Torn.{torn_at};
 
 use crate::files::{drop_file, move_file};
-use ice_store::{Bytes, Change, FileRec, Held, Items, Place};
+use ice_store::{Bytes, NameChange, FileRec, Held, Items, Place};
 use std::alloc::{AllocError, Global};
 
 /// The bytes of an unsealed file after a crash.
@@ -38,19 +38,19 @@ fn put_file(files: &mut Vec<Held>, held: Held) -> Result<(), AllocError>
     Ok(())
 }
 
-fn undo(files: &mut Vec<Held>, change: &Change) -> Result<(), AllocError>
+fn undo(files: &mut Vec<Held>, change: &NameChange) -> Result<(), AllocError>
     ensures { OnOk result (files.new.items ≡ undone change.now files.old.items) }
 {
     match change {
-        Change::Created(place) => drop_file(files, place),
-        Change::Renamed(from, to) => move_file(files, to, from)?,
-        Change::Removed(held) => put_file(files, held.copy()?)?,
+        NameChange::Created(place) => drop_file(files, place),
+        NameChange::Renamed(from, to) => move_file(files, to, from)?,
+        NameChange::Removed(held) => put_file(files, held.copy()?)?,
     }
     Ok(())
 }
 
 /// Undoes the pending changes that aren't done, the last one first.
-pub fn undo_some(files: &mut Vec<Held>, done: &[bool], pending: &[Change]) -> Result<(), AllocError>
+pub fn undo_some(files: &mut Vec<Held>, done: &[bool], pending: &[NameChange]) -> Result<(), AllocError>
     ensures { OnOk result (files.new.items ≡ names_by done.now pending.now files.old.items) }
 {
     match (done, pending) {

@@ -3,7 +3,7 @@ ghost use Rattle.std.specs.Prelude.{◌≡◌, ◌≤◌, ◌<◌, ◌^◌, [], 
 ghost use Rattle.ice_store.specs.Calls.{Rose};
 ghost use Rattle.ice_store.specs.Others.{WhereTold};
 ghost use Rattle.serde_json.specs.View.{view};
-ghost use Rattle.commit_publish.specs.Stages.{At as Stands};
+ghost use Rattle.commit_publish.specs.Stages.{InState};
 ghost use Rattle.upkeep_top.specs.Points.{point};
 ghost use Rattle.upkeep_top.specs.Reports.{list_report};
 ghost use Rattle.upkeep_top.specs.Statements.{Ends, IsEnd, Reports, IsListedBy};
@@ -11,7 +11,7 @@ ghost use Rattle.upkeep_top.specs.declared.task.Task.{Task as TheTask};
 
 use crate::report::{report_ancestors, report_move};
 use crate::task::{Task, Work};
-use commit_protocol::{Log, commit_change, open_table};
+use commit_protocol::{Log, commit, open_table};
 use ice_store::{Alone, Clock, Ids, Place, Sink, Store, Text};
 use run_refs::{Goal, RefMove, list_ancestors};
 use run_answers::{Status, status_of_error, status_of_open};
@@ -60,7 +60,7 @@ fn run_move<S: Store<Alone>, C: Clock, I: Ids, O: Sink>(
     log: &mut Log,
 ) -> Status
     requires work { task.now.work ≡ Work.Move goal.now }
-    requires start { WhereTold (S.past store.old) (Stands (λ d. d.pending ≡ [])) }
+    requires start { WhereTold (S.past store.old) (InState (λ d. d.pending ≡ [])) }
     ensures { Ends task.now result (point (S.past store.old) (S.faults store.old) (S.halted store.old) (C.given clock.old) (I.given ids.old) (O.contents out.old) (O.faults out.old) log.old.committed.items log.old.left.items)
         (point (S.past store.new) (S.faults store.new) (S.halted store.new) (C.given clock.new) (I.given ids.new) (O.contents out.new) (O.faults out.new) log.new.committed.items log.new.left.items) }
 {
@@ -69,7 +69,7 @@ fn run_move<S: Store<Alone>, C: Clock, I: Ids, O: Sink>(
         return Status::OutOfMemory;
     };
     let mut change = RefMove::new(copied, now);
-    match commit_change::<Alone, S, I, RefMove>(
+    match commit::<Alone, S, I, RefMove>(
         alloc,
         store,
         ids,
@@ -108,7 +108,7 @@ fn run_list<S: Store<Alone>, C: Clock, I: Ids, O: Sink>(
     log: &Log,
 ) -> Status
     requires work { task.now.work ≡ Work.List given }
-    requires start { WhereTold (S.past store.old) (Stands (λ d. d.pending ≡ [])) }
+    requires start { WhereTold (S.past store.old) (InState (λ d. d.pending ≡ [])) }
     ensures { Ends task.now result (point (S.past store.old) (S.faults store.old) (S.halted store.old) (C.given clock.old) (I.given ids.now) (O.contents out.old) (O.faults out.old) log.now.committed.items log.now.left.items)
         (point (S.past store.new) (S.faults store.new) (S.halted store.new) (C.given clock.new) (I.given ids.now) (O.contents out.new) (O.faults out.new) log.now.committed.items log.now.left.items) }
 {
@@ -129,7 +129,7 @@ pub(crate) fn run_task<S: Store<Alone>, C: Clock, I: Ids, O: Sink>(
     out: &mut O,
     log: &mut Log,
 ) -> Status
-    requires start { WhereTold (S.past store.old) (Stands (λ d. d.pending ≡ [])) }
+    requires start { WhereTold (S.past store.old) (InState (λ d. d.pending ≡ [])) }
     ensures { Ends task.now result (point (S.past store.old) (S.faults store.old) (S.halted store.old) (C.given clock.old) (I.given ids.old) (O.contents out.old) (O.faults out.old) log.old.committed.items log.old.left.items)
         (point (S.past store.new) (S.faults store.new) (S.halted store.new) (C.given clock.new) (I.given ids.new) (O.contents out.new) (O.faults out.new) log.new.committed.items log.new.left.items) }
 {

@@ -6,7 +6,7 @@ ghost use Rattle.ice_store.specs.Places.{Parts};
 ghost use Rattle.ice_store.specs.Since.{Since};
 ghost use Rattle.ice_store.specs.declared.faults.What.{What as TheWhat};
 ghost use Rattle.ice_store.specs.declared.faults.Where.{Where as TheWhere};
-ghost use Rattle.commit_publish.specs.Stages.{At as Stands};
+ghost use Rattle.commit_publish.specs.Stages.{InState};
 ghost use Rattle.run_answers.specs.Messages.{message_line};
 ghost use Rattle.run_answers.specs.Puts.{TakesPrefix, TakesAll};
 ghost use Rattle.run_answers.specs.declared.status.Status.{Status as TheStatus};
@@ -34,7 +34,7 @@ fn run_tasks<S: Store<Alone>, C: Clock, I: Ids, O: Sink>(
     out: &mut O,
     log: &mut Log,
 ) -> Status
-    requires start { WhereTold (S.past store.old) (Stands (λ d. d.pending ≡ [])) }
+    requires start { WhereTold (S.past store.old) (InState (λ d. d.pending ≡ [])) }
     ensures { (first : TheTask) (more : List TheTask) → tasks.now ≡ first ∷ more → Ended tasks.now result (point (S.past store.old) (S.faults store.old) (S.halted store.old) (C.given clock.old) (I.given ids.old) (O.contents out.old) (O.faults out.old) log.old.committed.items log.old.left.items)
         (point (S.past store.new) (S.faults store.new) (S.halted store.new) (C.given clock.new) (I.given ids.new) (O.contents out.new) (O.faults out.new) log.new.committed.items log.new.left.items) }
 {
@@ -56,7 +56,7 @@ fn run_words<S: Store<Alone>, C: Clock, I: Ids, O: Sink>(
     ids: &mut I,
     out: &mut O,
 ) -> Outcome
-    requires start { WhereTold (S.past store.old) (Stands (λ d. d.pending ≡ [])) }
+    requires start { WhereTold (S.past store.old) (InState (λ d. d.pending ≡ [])) }
     ensures told { Runs words.now result.status (point (S.past store.old) (S.faults store.old) (S.halted store.old) (C.given clock.old) (I.given ids.old) (O.contents out.old) (O.faults out.old) [] [])
         (point (S.past store.new) (S.faults store.new) (S.halted store.new) (C.given clock.new) (I.given ids.new) (O.contents out.new) (O.faults out.new) result.committed result.left) }
     ensures no_call { (status : TheStatus) → RefusesWords words.now status → store.new ≡ store.old }
@@ -98,7 +98,7 @@ pub fn run<R: AllocGlobal, S: Store<Alone>, C: Clock, I: Ids, O: Sink, X: Sink>(
     out: &mut O,
     err: &mut X,
 ) -> Outcome
-    requires start { WhereTold (S.past store.old) (Stands (λ d. d.pending ≡ [])) }
+    requires start { WhereTold (S.past store.old) (InState (λ d. d.pending ≡ [])) }
     ensures told { Runs words.now result.status (point (S.past store.old) (S.faults store.old) (S.halted store.old) (C.given clock.old) (I.given ids.old) (O.contents out.old) (O.faults out.old) [] [])
         (point (S.past store.new) (S.faults store.new) (S.halted store.new) (C.given clock.new) (I.given ids.new) (O.contents out.new) (O.faults out.new) result.committed result.left) }
     ensures refused { (status : TheStatus) → RefusesWords words.now status → (result.status ≡ status) ⊎ (result.status ≡ Status.OutOfMemory) }
@@ -129,7 +129,7 @@ pub fn run<R: AllocGlobal, S: Store<Alone>, C: Clock, I: Ids, O: Sink, X: Sink>(
     ensures committed { Since (S.past store.old) (S.past store.new) (TellsVersions words.now result.status result.committed) }
     ensures left { Since (S.past store.old) (S.past store.new) (LeavesPlaces words.now result.committed result.left (Rose (S.faults store.old) (S.faults store.new))) }
     ensures nothing_left { (MayLeave result.status → ⊥) → result.left ≡ [] }
-    ensures rests { result.status ≡ Status.Done → WhereTold (S.past store.new) (Stands (λ d. d.pending ≡ [])) }
+    ensures rests { result.status ≡ Status.Done → WhereTold (S.past store.new) (InState (λ d. d.pending ≡ [])) }
     ensures halted { Halts (S.halted store.old) (S.halted store.new) (S.past store.new) }
     ensures message { TakesPrefix (X.contents err.old) (X.contents err.new) (message_line result.status) }
     ensures whole_message { (Rose (X.faults err.old) (X.faults err.new) → ⊥) → TakesAll (X.contents err.old) (X.contents err.new) (message_line result.status) }

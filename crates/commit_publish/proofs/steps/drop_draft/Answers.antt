@@ -7,8 +7,8 @@ use Rattle.ice_store.specs.declared.history.Step.TheVariants.{Remove, SyncNames}
 use Rattle.ice_store.proofs.SinceLaws.{since_call, since_stands, since_start}
 use Rattle.commit_publish.specs.Stages.{Exactly, Anything}
 use Rattle.commit_publish.specs.Leaves.{Undropped, DropLeaves}
-use Rattle.commit_publish.specs.declared.steps.CallErr.{CallErr}
-use Rattle.commit_publish.specs.declared.steps.Call.TheVariants.{OnFile, OnNames}
+use Rattle.commit_publish.specs.declared.steps.StepErr.{StepErr}
+use Rattle.commit_publish.specs.declared.steps.FailedCall.TheVariants.{OnFile, OnNames}
 use Rattle.commit_publish.proofs.CallLaws as calls
 use Rattle.commit_publish.proofs.CallLaws.{RR, K0, KD, KT}
 use Rattle.commit_publish.proofs.Narrow.{work, never}
@@ -32,7 +32,7 @@ returns-in-Err-clause-told g c =
     let r0 = since_start p0 (KT x) Told0 c.requires.start (λ old here. calls.starts x (KT x) old here) in
     let p1 = g.S.Store.past c.remove.new.self in
     let told = since_call (may (g.S.Store.manners c.args.store.now)) p0 p0 p1 Told0 (RR x (Undropped x.draft OnFile c.in-Err.cause) Anything) (RemoveAnswer x.draft (Err c.in-Err.cause)) r0 (c.in-Err.ensures.told) (λ old now new h told. calls.remove_err x old now new (never x.number) h c.in-Err.cause told) in
-    subst (λ (e : CallErr). Since p0 p1 (DropLeaves x.number x.Good x.Reached x.allows x.draft x.target (Err e))) (sym c.on_file.ensures) told
+    subst (λ (e : StepErr). Since p0 p1 (DropLeaves x.number x.Good x.Reached x.allows x.draft x.target (Err e))) (sym c.on_file.ensures) told
 
 pub returns-in-Ok-sync_names-clause-told : goal.returns-in-Ok-sync_names-clause-told
 returns-in-Ok-sync_names-clause-told g c =
@@ -61,4 +61,4 @@ returns-in-Err-sync_names-clause-told g c =
     let r1 = since_call (may (g.S.Store.manners c.args.store.now)) p0 p0 p1 Told0 Told1 (RemoveAnswer x.draft (Ok c.in-Ok.field-0)) r0 (c.in-Ok.ensures.told) (λ old now new h told. calls.remove_ok x old now new (never x.number) h c.in-Ok.field-0 told) in
     let p2 = g.S.Store.past c.sync_names.new.self in
     let told = since_call (may (g.S.Store.manners c.args.store.now)) p0 p1 p2 Told1 (RR x (Undropped x.draft OnNames c.in-Err-sync_names.cause) Anything) (PlainAnswer SyncNames (Err c.in-Err-sync_names.cause)) r1 (subst (λ m. Answers (may m) p1 p2 (PlainAnswer SyncNames (Err c.in-Err-sync_names.cause))) q1 (c.in-Err-sync_names.ensures.told)) (λ old now new h told. calls.dropped_err x old now new h c.in-Err-sync_names.cause told) in
-    subst (λ (e : CallErr). Since p0 p2 (DropLeaves x.number x.Good x.Reached x.allows x.draft x.target (Err e))) (sym c.on_names.ensures) told
+    subst (λ (e : StepErr). Since p0 p2 (DropLeaves x.number x.Good x.Reached x.allows x.draft x.target (Err e))) (sym c.on_names.ensures) told

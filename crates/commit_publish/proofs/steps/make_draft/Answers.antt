@@ -5,7 +5,7 @@ use Rattle.ice_store.specs.declared.history.Past.{Past}
 use Rattle.ice_store.proofs.SinceLaws.{since_call, since_stands, since_start}
 use Rattle.commit_publish.specs.Stages.{Exactly, Anything}
 use Rattle.commit_publish.specs.Leaves.{MakeLeaves, Unmade}
-use Rattle.commit_publish.specs.declared.steps.CallErr.{CallErr}
+use Rattle.commit_publish.specs.declared.steps.StepErr.{StepErr}
 use Rattle.commit_publish.proofs.CallLaws as calls
 use Rattle.commit_publish.proofs.CallLaws.{RR, K0, KD, KT}
 use Rattle.commit_publish.proofs.Narrow.{work}
@@ -29,7 +29,7 @@ returns-in-Err-clause-told g c =
     let r0 = since_start p0 (K0 x) Told0 c.requires.start (λ old here. calls.starts x (K0 x) old here) in
     let p1 = g.S.Store.past c.create.new.self in
     let told = since_call (may (g.S.Store.manners c.args.store.now)) p0 p0 p1 Told0 (RR x (Unmade x.draft c.in-Err.cause) Anything) (CreateAnswer x.draft (Err c.in-Err.cause)) r0 (c.in-Err.ensures.told) (λ old now new h told. calls.create_err x old now new c.in-Err.cause h told) in
-    subst (λ (e : CallErr). Since p0 p1 (MakeLeaves x.number x.Good x.Reached x.allows x.base x.target x.draft (Err e))) (sym c.on_file.ensures) told
+    subst (λ (e : StepErr). Since p0 p1 (MakeLeaves x.number x.Good x.Reached x.allows x.base x.target x.draft (Err e))) (sym c.on_file.ensures) told
 
 pub returns-in-Ok-clause-told : goal.returns-in-Ok-clause-told
 returns-in-Ok-clause-told g c =

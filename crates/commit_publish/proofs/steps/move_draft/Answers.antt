@@ -8,8 +8,8 @@ use Rattle.ice_store.specs.declared.store.Moved.TheVariants.{Done, Exists as The
 use Rattle.ice_store.proofs.SinceLaws.{since_call, since_stands, since_start}
 use Rattle.commit_publish.specs.Stages.{AtRest, Exactly, Anything, IsRenamed, IsPublished}
 use Rattle.commit_publish.specs.Leaves.{Unmoved, MoveLeaves}
-use Rattle.commit_publish.specs.declared.steps.CallErr.{CallErr}
-use Rattle.commit_publish.specs.declared.steps.Call.TheVariants.{OnFile, OnNames}
+use Rattle.commit_publish.specs.declared.steps.StepErr.{StepErr}
+use Rattle.commit_publish.specs.declared.steps.FailedCall.TheVariants.{OnFile, OnNames}
 use Rattle.commit_publish.proofs.CallLaws as calls
 use Rattle.commit_publish.proofs.CallLaws.{RR, K0, KD, KT}
 use Rattle.commit_publish.proofs.Narrow.{work}
@@ -33,7 +33,7 @@ returns-in-Err-clause-told g c =
     let r0 = since_start p0 (KD x AtRest true x.bytes) Told0 c.requires.start (λ old here. calls.starts x (KD x AtRest true x.bytes) old here) in
     let p1 = g.S.Store.past c.rename_new.new.self in
     let told = since_call (may (g.S.Store.manners c.args.store.now)) p0 p0 p1 Told0 (RR x (Unmoved x.draft x.target OnFile c.in-Err.cause) Anything) (RenameAnswer x.draft x.target (Err c.in-Err.cause)) r0 (c.in-Err.ensures.told) (λ old now new h told. calls.rename_err x old now new (λ s. c.requires.reads) h c.in-Err.cause told) in
-    subst (λ (e : CallErr). Since p0 p1 (MoveLeaves x.number x.Good x.Reached x.allows x.base x.text x.target x.draft x.bytes (Err e))) (sym c.on_file.ensures) told
+    subst (λ (e : StepErr). Since p0 p1 (MoveLeaves x.number x.Good x.Reached x.allows x.base x.text x.target x.draft x.bytes (Err e))) (sym c.on_file.ensures) told
 
 pub returns-in-Ok-Exists-clause-told : goal.returns-in-Ok-Exists-clause-told
 returns-in-Ok-Exists-clause-told g c =
@@ -72,4 +72,4 @@ returns-in-Err-sync_names-clause-told g c =
     let r1 = since_call (may (g.S.Store.manners c.args.store.now)) p0 p0 p1 Told0 Told1 (RenameAnswer x.draft x.target (Ok Done)) r0 (subst (λ r. Answers (may (g.S.Store.manners c.args.store.now)) p0 p1 (RenameAnswer x.draft x.target (Ok r))) c.in-Ok-Done.field-0-is c.in-Ok-Done.ensures.told) (λ old now new h told. calls.rename_done x old now new (λ s. c.requires.reads) h told) in
     let p2 = g.S.Store.past c.sync_names.new.self in
     let told = since_call (may (g.S.Store.manners c.args.store.now)) p0 p1 p2 Told1 (RR x (Unmoved x.draft x.target OnNames c.in-Err-sync_names.cause) Anything) (PlainAnswer SyncNames (Err c.in-Err-sync_names.cause)) r1 (subst (λ m. Answers (may m) p1 p2 (PlainAnswer SyncNames (Err c.in-Err-sync_names.cause))) q1 (c.in-Err-sync_names.ensures.told)) (λ old now new h told. calls.publish_err x old now new h c.in-Err-sync_names.cause told) in
-    subst (λ (e : CallErr). Since p0 p2 (MoveLeaves x.number x.Good x.Reached x.allows x.base x.text x.target x.draft x.bytes (Err e))) (sym c.on_names.ensures) told
+    subst (λ (e : StepErr). Since p0 p2 (MoveLeaves x.number x.Good x.Reached x.allows x.base x.text x.target x.draft x.bytes (Err e))) (sym c.on_names.ensures) told

@@ -8,9 +8,9 @@ use Rattle.commit_history.specs.Versions.{number_in}
 use Rattle.commit_history.proofs.Numbering.{numbering}
 use Rattle.commit_publish.specs.Stages.{Narrow, NoReach, Exactly, Anything}
 use Rattle.commit_publish.proofs.Narrow.{narrow_local}
-use Rattle.commit_versions.specs.Opening.{ReadLeaves, text_by, file_limit}
-use Rattle.commit_versions.specs.declared.types.Text.{Text}
-use Rattle.commit_versions.specs.declared.types.Text.TheVariants.{Absent}
+use Rattle.commit_versions.specs.Opening.{ReadLeaves, version_file_of, file_limit}
+use Rattle.commit_versions.specs.declared.types.VersionFile.{VersionFile}
+use Rattle.commit_versions.specs.declared.types.VersionFile.TheVariants.{Absent}
 use Rattle.commit_versions.proofs.OpenLaws as laws
 use Rattle.commit_versions.proofs.open.read_version.Goals as goal
 
@@ -32,9 +32,9 @@ returns-in-Ok-Some-clause-told g c =
     let r0 = since_start p0 KO Told0 c.requires.start (λ old here. (refl, here)) in
     let text = c.in-Ok-Some.text in
     let RT = ReadLeaves number Good NoReach allows base in
-    subst (λ (r : Text). Since p0 p1 (RT (Ok r))) (sym c.sized.ensures)
-    (since_call allows p0 p0 p1 Told0 (RT (Ok (text_by text))) (ReadAnswer base 0 (file_limit + 1) (Ok (Some text))) r0 (subst (λ (o : Option (List ℕ)). Answers allows p0 p1 (ReadAnswer base 0 (file_limit + 1) (Ok o))) c.in-Ok-Some.field-0-is c.in-Ok-Some.ensures.told)
-    (λ old now new h told. subst (λ (p : Past). RT (Ok (text_by text)) p new) h.0 (laws.read_ok number Good NoReach allows ruled localized mannered base pos file_limit refl (file_limit + 1) refl text now new h.1 told)))
+    subst (λ (r : VersionFile). Since p0 p1 (RT (Ok r))) (sym c.sized.ensures)
+    (since_call allows p0 p0 p1 Told0 (RT (Ok (version_file_of text))) (ReadAnswer base 0 (file_limit + 1) (Ok (Some text))) r0 (subst (λ (o : Option (List ℕ)). Answers allows p0 p1 (ReadAnswer base 0 (file_limit + 1) (Ok o))) c.in-Ok-Some.field-0-is c.in-Ok-Some.ensures.told)
+    (λ old now new h told. subst (λ (p : Past). RT (Ok (version_file_of text)) p new) h.0 (laws.read_ok number Good NoReach allows ruled localized mannered base pos file_limit refl (file_limit + 1) refl text now new h.1 told)))
 
 pub returns-in-Ok-None-clause-told : goal.returns-in-Ok-None-clause-told
 returns-in-Ok-None-clause-told g c =

@@ -54,8 +54,8 @@ returns-in_default g c =
     } in
     subst (λ (t : Task). Ends t OutOfMemory p q) (ap (λ (x : Work). record { word = w.word; table = w.table; work = x }) (sym c.requires.work)) ends
 
-pub returns-in-Ok-commit_change : goal.returns-in-Ok-commit_change
-returns-in-Ok-commit_change g c =
+pub returns-in-Ok-commit : goal.returns-in-Ok-commit
+returns-in-Ok-commit g c =
     let w = c.args.task.now in
     let now = c.now_ms-now.result in
     let r = c.new-change.result in
@@ -70,8 +70,8 @@ returns-in-Ok-commit_change g c =
     let p = point p0 (g.S.Store.faults c.args.store.now) (g.S.Store.halted c.args.store.now) (g.C.Clock.given c.args.clock.now) (g.I.Ids.given c.args.ids.now) before (g.O.Sink.faults c.args.out.now) c.args.log.now.committed.items c.args.log.now.left.items in
     let q = point p1 (g.S.Store.faults c.commit.new.store) (g.S.Store.halted c.commit.new.store) (g.C.Clock.given c.now_ms-now.new.self) (g.I.Ids.given c.commit.new.ids) after (g.O.Sink.faults c.put_report.new.out) c.commit.new.log.committed.items c.commit.new.log.left.items in
     let Drawn = Gives (g.I.Ids.given c.args.ids.now) (g.I.Ids.given c.commit.new.ids) in
-    let end : End = Ok c.in-Ok-commit_change.field-0 in
-    let e = c.in-Ok-commit_change.ensures in
+    let end : End = Ok c.in-Ok-commit.field-0 in
+    let e = c.in-Ok-commit.ensures in
     let put : Reports before after (move_report r.goal s.previous s.id) status = subst (λ (x : Goal). Reports before after (move_report x s.previous s.id) status) (sym goals) (c.put_report.ensures.reports (move_report c.args.goal.now s.previous s.id) c.report_move.ensures) in
     let ends : Ends made status p q = record {
       now = now;

@@ -4,7 +4,7 @@ use Rattle.commit_history.specs.Runs.{Ran}
 use Rattle.commit_history.specs.Versions.{number_in}
 use Rattle.commit_history.proofs.Running.{begins}
 use Rattle.commit_history.proofs.Numbering.{numbering}
-use Rattle.commit_publish.specs.Stages.{Narrow, NoReach, Exactly, At as Stands}
+use Rattle.commit_publish.specs.Stages.{Narrow, NoReach, Exactly, InState}
 use Rattle.commit_publish.proofs.Narrow.{narrow_local}
 use Rattle.commit_versions.specs.Opening.{OpenStage}
 use Rattle.commit_protocol.specs.Metadata.{IsTableOf}
@@ -13,7 +13,7 @@ use Rattle.run_refs.proofs.moves.RefMoveChange.attempt.Goals as goal
 pub returns-in_err-moved-clause-told : goal.returns-in_err-moved-clause-told
 returns-in_err-moved-clause-told g c =
     let t = c.args._table.now in
-    let KO = Stands (OpenStage (number_in t) c.args.base.now.place) in
+    let KO = InState (OpenStage (number_in t) c.args.base.now.place) in
     let allows = g.M.Manners.allows (g.S.Store.manners c.args._store.now) in
     since_start (g.S.Store.past c.args._store.now) KO (Ran (number_in t) (Narrow IsTableOf t) NoReach allows (Exactly []) KO) c.requires.start
     (λ old here. begins (number_in t) (Narrow IsTableOf t) NoReach allows (numbering t) (narrow_local IsTableOf t) KO old here)
@@ -21,7 +21,7 @@ returns-in_err-moved-clause-told g c =
 pub returns-clause-told : goal.returns-clause-told
 returns-clause-told g c =
     let t = c.args._table.now in
-    let KO = Stands (OpenStage (number_in t) c.args.base.now.place) in
+    let KO = InState (OpenStage (number_in t) c.args.base.now.place) in
     let allows = g.M.Manners.allows (g.S.Store.manners c.args._store.now) in
     since_start (g.S.Store.past c.args._store.now) KO (Ran (number_in t) (Narrow IsTableOf t) NoReach allows (Exactly []) KO) c.requires.start
     (λ old here. begins (number_in t) (Narrow IsTableOf t) NoReach allows (numbering t) (narrow_local IsTableOf t) KO old here)

@@ -23,7 +23,7 @@ use Rattle.commit_protocol.specs.Verdicts.{IsIdle, CommitVerdict, IsExactCommit}
 use Rattle.commit_protocol.proofs.CommitLaws as laws
 use Rattle.commit_protocol.proofs.VerdictLaws.{commit_ends}
 use Rattle.commit_protocol.proofs.UniqueLaws.{one_commit_of}
-use Rattle.commit_protocol.proofs.commit.commit.Goals as goal
+use Rattle.commit_protocol.proofs.committing.commit.Goals as goal
 
 pub returns-in-Ok-clause-told : goal.returns-in-Ok-clause-told
 returns-in-Ok-clause-told g c =

@@ -9,7 +9,7 @@ use Rattle.commit_versions.specs.Opening.{file_limit}
 use Rattle.commit_versions.specs.Names.{version_text_of}
 use Rattle.commit_protocol.specs.Written.{next_tree}
 use Rattle.commit_protocol.proofs.CommitLaws as laws
-use Rattle.commit_protocol.proofs.commit.draw_up.Goals as goal
+use Rattle.commit_protocol.proofs.committing.draw_up.Goals as goal
 
 pub returns-then-len-gt-FILE_LIMIT-clause-err : goal.returns-then-len-gt-FILE_LIMIT-clause-err
 returns-then-len-gt-FILE_LIMIT-clause-err c =

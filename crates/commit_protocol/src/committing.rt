@@ -7,7 +7,7 @@ ghost use Rattle.serde_json.specs.View.{view};
 ghost use Rattle.commit_history.specs.Mannered.{IsMannered};
 ghost use Rattle.commit_history.specs.Versions.{number_in};
 ghost use Rattle.table_metadata.specs.Edits.{HasVersionLimit};
-ghost use Rattle.commit_publish.specs.Stages.{Narrow, NoReach, Creating, At as Stands};
+ghost use Rattle.commit_publish.specs.Stages.{Narrow, NoReach, Creating, InState};
 ghost use Rattle.commit_publish.specs.Leaves.{Halts};
 ghost use Rattle.commit_versions.specs.Latest.{IsBaseNumber};
 ghost use Rattle.commit_versions.specs.Opening.{OpenStage, OpenFaultAt};
@@ -36,7 +36,7 @@ use crate::opening::{At, Metadata, open_table};
 use ice_store::{Bytes, Ids, Manners, Place, ReadErr, Store, Text, What, Where};
 use std::alloc::{AllocError, Global};
 use table_metadata::{Meta, write_meta};
-use commit_publish::{Call, Log, PublishErr, Route, publish_version};
+use commit_publish::{FailedCall, Log, PublishErr, Route, publish_version};
 use commit_versions::{draft_place, version_place, version_text};
 use commit_versions::FILE_LIMIT;
 
@@ -117,10 +117,10 @@ fn commit_error(e: PublishErr, route: Route, version: u64) -> CommitErr
         PublishErr::NameTaken => CommitErr::Attempt(AttemptErr::NameTaken { place: route.draft }),
         PublishErr::Contended => CommitErr::Contended { version },
         PublishErr::Unknown => CommitErr::CommitUnknown { version },
-        PublishErr::Fault(Call::OnFile) => CommitErr::Attempt(AttemptErr::Read(ReadErr::StoreFault {
+        PublishErr::Fault(FailedCall::OnFile) => CommitErr::Attempt(AttemptErr::Read(ReadErr::StoreFault {
             place: route.draft,
         })),
-        PublishErr::Fault(Call::OnNames) => CommitErr::Attempt(AttemptErr::Read(
+        PublishErr::Fault(FailedCall::OnNames) => CommitErr::Attempt(AttemptErr::Read(
             ReadErr::StoreFault { place: route.table },
         )),
         PublishErr::NoMemory => CommitErr::Attempt(AttemptErr::Read(ReadErr::Memory)),
@@ -143,7 +143,7 @@ fn publish_built<M: Manners, S: Store<M>, I: Ids>(
     requires stays { StaysTable (view at.meta) (view meta) }
     requires limit { HasVersionLimit (view at.meta) }
     requires moment { now < 2 ^ 63 }
-    requires start { WhereTold (S.past store.old) (Stands (OpenStage (number_in table.now) at.place)) }
+    requires start { WhereTold (S.past store.old) (InState (OpenStage (number_in table.now) at.place)) }
     ensures told { Since (S.past store.old) (S.past store.new) (PublishedLeaves (number_in table.now) (Narrow IsTableOf table.now) NoReach (M.allows (S.manners store.old)) (Gives (I.given ids.old) (I.given ids.new)) table.now now at (view meta) result) }
     ensures manners { S.manners store.new ≡ S.manners store.old }
     ensures cause { CommitRose result (S.faults store.old) (S.faults store.new) }
@@ -201,7 +201,7 @@ fn attempt_on<M: Manners, S: Store<M>, I: Ids, X: Change<M>>(
     requires numbers { IsBaseNumber (number_in table.now) at.place at.version }
     requires metadata { IsMetadata table.now at.text (view at.meta) }
     requires moment { now < 2 ^ 63 }
-    requires start { WhereTold (S.past store.old) (Stands (OpenStage (number_in table.now) at.place)) }
+    requires start { WhereTold (S.past store.old) (InState (OpenStage (number_in table.now) at.place)) }
     ensures told { Since (S.past store.old) (S.past store.new) (AttemptLeaves (number_in table.now) (Narrow IsTableOf table.now) NoReach (M.allows (S.manners store.old)) (X.successor change.old) (X.same change.old) (X.refuses change.old) (X.seen change.old change.new) (Gives (I.given ids.old) (I.given ids.new)) table.now now at result) }
     ensures manners { S.manners store.new ≡ S.manners store.old }
     ensures cause { CommitRose result (S.faults store.old) (S.faults store.new) }
@@ -248,7 +248,7 @@ pub fn commit<M: Manners, S: Store<M>, I: Ids, X: Change<M>>(
 ) -> Result<Committed, CommitErr>
     requires mannered { IsMannered (number_in table.now) (Narrow IsTableOf table.now) NoReach (M.allows (S.manners store.old)) }
     requires moment { now < 2 ^ 63 }
-    requires start { WhereTold (S.past store.old) (Stands (λ d. Creating d.pending)) }
+    requires start { WhereTold (S.past store.old) (InState (λ d. Creating d.pending)) }
     ensures told { Since (S.past store.old) (S.past store.new) (CommitLeaves (number_in table.now) (Narrow IsTableOf table.now) NoReach (M.allows (S.manners store.old)) (X.successor change.old) (X.same change.old) (X.refuses change.old) (X.seen change.old change.new) (Gives (I.given ids.old) (I.given ids.new)) table.now now result) }
     ensures manners { S.manners store.new ≡ S.manners store.old }
     ensures cause { CommitRose result (S.faults store.old) (S.faults store.new) }

@@ -8,7 +8,7 @@ use Rattle.ice_store.proofs.SinceLaws.{since_start, since_then, since_turned}
 use Rattle.serde_json.specs.View.{view}
 use Rattle.commit_history.specs.Versions.{number_in}
 use Rattle.table_metadata.specs.Edits.{HasVersionLimit}
-use Rattle.commit_publish.specs.Stages.{Narrow, NoReach, Exactly, At as Stands}
+use Rattle.commit_publish.specs.Stages.{Narrow, NoReach, Exactly, InState}
 use Rattle.commit_publish.specs.Left.{Notes}
 use Rattle.commit_versions.specs.Opening.{OpenStage}
 use Rattle.commit_protocol.specs.Metadata.{IsTableOf}
@@ -26,7 +26,7 @@ use Rattle.commit_protocol.specs.declared.change.Built.TheVariants.{Same as Unch
 use Rattle.commit_protocol.specs.declared.errors.CommitErr.TheVariants.{Open, Attempt, CommitUnknown}
 use Rattle.commit_protocol.specs.declared.errors.Committed.TheVariants.{Same}
 use Rattle.commit_protocol.proofs.CommitLaws as laws
-use Rattle.commit_protocol.proofs.commit.attempt_on.Goals as goal
+use Rattle.commit_protocol.proofs.committing.attempt_on.Goals as goal
 
 pub returns-then-not-has_version_limit-clause-told : goal.returns-then-not-has_version_limit-clause-told
 returns-then-not-has_version_limit-clause-told g c =
@@ -39,7 +39,7 @@ returns-then-not-has_version_limit-clause-told g c =
     let successor = g.X.Change.successor c.args.change.now in
     let same = g.X.Change.same c.args.change.now in
     let refuses = g.X.Change.refuses c.args.change.now in
-    let KO = Stands (OpenStage number at.place) in
+    let KO = InState (OpenStage number at.place) in
     let seen = g.X.Change.seen c.args.change.now c.args.change.now in
     let Drawn = Gives (g.I.Ids.given c.args.ids.now) (g.I.Ids.given c.args.ids.now) in
     let Leaves = AttemptLeaves number Good NoReach allows successor same refuses seen Drawn t c.args.now at in
@@ -67,7 +67,7 @@ returns-in-Ok-Next-clause-told g c =
     let successor = g.X.Change.successor c.args.change.now in
     let same = g.X.Change.same c.args.change.now in
     let refuses = g.X.Change.refuses c.args.change.now in
-    let KO = Stands (OpenStage number at.place) in
+    let KO = InState (OpenStage number at.place) in
     let seen = g.X.Change.seen c.args.change.now c.attempt.new.self in
     let p1 = g.S.Store.past c.attempt.new.store in
     let p2 = g.S.Store.past c.publish_built.new.store in
@@ -94,7 +94,7 @@ returns-in-Ok-Same-clause-told g c =
     let successor = g.X.Change.successor c.args.change.now in
     let same = g.X.Change.same c.args.change.now in
     let refuses = g.X.Change.refuses c.args.change.now in
-    let KO = Stands (OpenStage number at.place) in
+    let KO = InState (OpenStage number at.place) in
     let seen = g.X.Change.seen c.args.change.now c.attempt.new.self in
     let p1 = g.S.Store.past c.attempt.new.store in
     let Drawn = Gives (g.I.Ids.given c.args.ids.now) (g.I.Ids.given c.attempt.new.ids) in
@@ -115,7 +115,7 @@ returns-in-Err-clause-told g c =
     let successor = g.X.Change.successor c.args.change.now in
     let same = g.X.Change.same c.args.change.now in
     let refuses = g.X.Change.refuses c.args.change.now in
-    let KO = Stands (OpenStage number at.place) in
+    let KO = InState (OpenStage number at.place) in
     let seen = g.X.Change.seen c.args.change.now c.attempt.new.self in
     let p1 = g.S.Store.past c.attempt.new.store in
     let Drawn = Gives (g.I.Ids.given c.args.ids.now) (g.I.Ids.given c.attempt.new.ids) in
@@ -133,7 +133,7 @@ returns-then-not-has_version_limit-clause-noted g c =
     let before = g.S.Store.faults c.args.store.now in
     let had = c.args.log.now.left.items in
     let Drawn = Gives (g.I.Ids.given c.args.ids.now) (g.I.Ids.given c.args.ids.now) in
-    let K = Stands (OpenStage (number_in t) c.args.at.place) in
+    let K = InState (OpenStage (number_in t) c.args.at.place) in
     since_start p0 K (Notes (Rose before before) (IsNamingOf Drawn t) 0 [] had had) c.requires.start
     (λ old here. notes_none (number_in t) (Narrow IsTableOf t) NoReach allows (IsNamingOf Drawn t) (Rose before before) K had had old old refl (laws.stays t allows c.requires.mannered c.args.now Drawn c.args.at K old here))
 
@@ -144,7 +144,7 @@ returns-in-Ok-Next-clause-noted g c =
     let p0 = g.S.Store.past c.args.store.now in
     let before = g.S.Store.faults c.args.store.now in
     let had = c.args.log.now.left.items in
-    let K = Stands (OpenStage (number_in t) c.args.at.place) in
+    let K = InState (OpenStage (number_in t) c.args.at.place) in
     let p1 = g.S.Store.past c.attempt.new.store in
     let p2 = g.S.Store.past c.publish_built.new.store in
     let between = g.S.Store.faults c.attempt.new.store in
@@ -166,7 +166,7 @@ returns-in-Ok-Same-clause-noted g c =
     let before = g.S.Store.faults c.args.store.now in
     let had = c.args.log.now.left.items in
     let Drawn = Gives (g.I.Ids.given c.args.ids.now) (g.I.Ids.given c.attempt.new.ids) in
-    let K = Stands (OpenStage (number_in t) c.args.at.place) in
+    let K = InState (OpenStage (number_in t) c.args.at.place) in
     let p1 = g.S.Store.past c.attempt.new.store in
     let risen = Rose before (g.S.Store.faults c.attempt.new.store) in
     let has = c.attempt.new.log.left.items in
@@ -181,7 +181,7 @@ returns-in-Err-clause-noted g c =
     let before = g.S.Store.faults c.args.store.now in
     let had = c.args.log.now.left.items in
     let Drawn = Gives (g.I.Ids.given c.args.ids.now) (g.I.Ids.given c.attempt.new.ids) in
-    let K = Stands (OpenStage (number_in t) c.args.at.place) in
+    let K = InState (OpenStage (number_in t) c.args.at.place) in
     let p1 = g.S.Store.past c.attempt.new.store in
     let risen = Rose before (g.S.Store.faults c.attempt.new.store) in
     let has = c.attempt.new.log.left.items in
@@ -223,7 +223,7 @@ returns-in-Ok-Next-clause-renamed g c version is =
     let p0 = g.S.Store.past c.args.store.now in
     let p1 = g.S.Store.past c.attempt.new.store in
     let p2 = g.S.Store.past c.publish_built.new.store in
-    let K = Stands (OpenStage (number_in t) c.args.at.place) in
+    let K = InState (OpenStage (number_in t) c.args.at.place) in
     let last = g.I.Ids.given c.publish_built.new.ids in
     let Drawn = Gives (g.I.Ids.given c.args.ids.now) last in
     let had = c.args.log.now.left.items in

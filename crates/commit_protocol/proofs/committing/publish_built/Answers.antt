@@ -6,7 +6,7 @@ use Rattle.ice_store.specs.Since.{Since}
 use Rattle.ice_store.proofs.SinceLaws.{since_start, since_turned}
 use Rattle.serde_json.specs.View.{view}
 use Rattle.commit_history.specs.Versions.{number_in}
-use Rattle.commit_publish.specs.Stages.{Narrow, NoReach, At as Stands}
+use Rattle.commit_publish.specs.Stages.{Narrow, NoReach, InState}
 use Rattle.commit_publish.specs.Leaves.{PublishLeaves}
 use Rattle.commit_versions.specs.Opening.{OpenStage}
 use Rattle.commit_protocol.specs.Metadata.{IsTableOf}
@@ -22,7 +22,7 @@ use Rattle.commit_protocol.specs.declared.errors.CommitErr.{CommitErr}
 use Rattle.commit_protocol.specs.declared.errors.CommitErr.TheVariants.{Open, Attempt, CommitUnknown}
 use Rattle.commit_protocol.specs.declared.errors.Committed.TheVariants.{Published}
 use Rattle.commit_protocol.proofs.CommitLaws as laws
-use Rattle.commit_protocol.proofs.commit.publish_built.Goals as goal
+use Rattle.commit_protocol.proofs.committing.publish_built.Goals as goal
 
 pub returns-in-Err-clause-told : goal.returns-in-Err-clause-told
 returns-in-Err-clause-told g c =
@@ -32,8 +32,8 @@ returns-in-Err-clause-told g c =
     let p0 = g.S.Store.past c.args.store.now in
     let built = view c.args.meta in
     let e = c.in-Err.e in
-    since_start p0 (Stands (OpenStage (number_in t) c.args.at.place)) (laws.BuiltLeaves t allows c.requires.mannered c.args.now Drawn c.args.at built (Err (Attempt e))) c.requires.start
-    (λ old here. laws.unwritten_err t allows c.requires.mannered c.args.now Drawn c.args.at built c.next-id.result c.next-id.ensures c.requires.limit e old old c.in-Err.ensures.err (laws.starts t allows c.requires.mannered c.args.now Drawn c.args.at (Stands (OpenStage (number_in t) c.args.at.place)) old here))
+    since_start p0 (InState (OpenStage (number_in t) c.args.at.place)) (laws.BuiltLeaves t allows c.requires.mannered c.args.now Drawn c.args.at built (Err (Attempt e))) c.requires.start
+    (λ old here. laws.unwritten_err t allows c.requires.mannered c.args.now Drawn c.args.at built c.next-id.result c.next-id.ensures c.requires.limit e old old c.in-Err.ensures.err (laws.starts t allows c.requires.mannered c.args.now Drawn c.args.at (InState (OpenStage (number_in t) c.args.at.place)) old here))
 
 pub returns-in-Ok-publish_version-clause-told : goal.returns-in-Ok-publish_version-clause-told
 returns-in-Ok-publish_version-clause-told g c =
@@ -97,7 +97,7 @@ returns-in-Err-clause-noted g c =
     let before = g.S.Store.faults c.args.store.now in
     let had = c.args.log.now.left.items in
     let Drawn = Gives (g.I.Ids.given c.args.ids.now) (g.I.Ids.given c.next-id.new.self) in
-    let K = Stands (OpenStage (number_in t) c.args.at.place) in
+    let K = InState (OpenStage (number_in t) c.args.at.place) in
     since_start p0 K (Notes (Rose before before) (IsNamingOf Drawn t) 0 [] had had) c.requires.start
     (λ old here. notes_none (number_in t) (Narrow IsTableOf t) NoReach allows (IsNamingOf Drawn t) (Rose before before) K had had old old refl (laws.stays t allows c.requires.mannered c.args.now Drawn c.args.at K old here))
 
