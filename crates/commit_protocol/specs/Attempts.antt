@@ -19,6 +19,7 @@ use Rattle.commit_versions.specs.Names.{version_text_of, version_name, draft_nam
 use Rattle.commit_history.specs.Versions.{folder, number_in}
 use Rattle.serde_json.specs.Written.{compact_text}
 use Rattle.commit_publish.specs.Leaves.{PublishLeaves}
+use Rattle.commit_publish.specs.declared.steps.Route.{Route}
 use Rattle.commit_publish.specs.declared.steps.FailedCall.{FailedCall}
 use Rattle.commit_publish.specs.declared.steps.FailedCall.TheVariants.{OnFile, OnNames}
 use Rattle.commit_publish.specs.declared.publish.PublishErr.{PublishErr}
@@ -63,11 +64,12 @@ pub record Writes (successor : Data → Data → Type 0) (version now : ℕ) (tr
 pub record Drafted (Drawn : ℕ → Type 0) (successor : Data → Data → Type 0) (table : Parts) (now : ℕ) (at : At) : Type 0 where
   pub id : ℕ
   pub drawn : Drawn id
-  pub draft : Parts
-  pub draft_is : draft ≡ table ++ folder ∷ draft_name id ∷ []
-  pub target : Parts
-  pub target_is : target ≡ table ++ folder ∷ version_name (at.version + 1) ∷ []
-  pub aim : Aim (number_in table) draft at.place target
+  pub route : Route
+  pub base_is : route.base ≡ at.place
+  pub text_is : route.text ≡ at.text
+  pub draft_is : route.draft ≡ table ++ folder ∷ draft_name id ∷ []
+  pub target_is : route.target ≡ table ++ folder ∷ version_name (at.version + 1) ∷ []
+  pub aim : Aim (number_in table) route
   pub bytes : List ℕ
   pub writes : Writes successor at.version now (view at.meta) bytes
   pub short : length bytes ≤ file_limit
@@ -101,7 +103,7 @@ module _ (table : Parts) (allows : Past → Step → Type 0) where
 
   -- the publish of a file that was drawn up ended so
   abbrev pub DraftLeaves : (Drawn : ℕ → Type 0) (successor : Data → Data → Type 0) (now : ℕ) (at : At) → Drafted Drawn successor table now at → Result (Unit {0}) PublishErr → Past → Past → Type 0
-  DraftLeaves Drawn successor now at d = PublishLeaves (metadata_rules table allows) at.place at.text d.target d.draft d.bytes
+  DraftLeaves Drawn successor now at d = PublishLeaves (metadata_rules table allows) d.route d.bytes
 
   -- of a change with these meanings, at a moment, where identifiers were drawn
   module _ (meanings : Meanings) (Drawn : ℕ → Type 0) (now : ℕ) where
@@ -114,14 +116,14 @@ module _ (table : Parts) (allows : Past → Step → Type 0) where
     pub record FaultBy (at : At) (place : Parts) (old new : Past) : Type 0 where
       pub call : FailedCall
       pub drafted : Drafted Drawn meanings.successor table now at
-      pub place_is : place ≡ faulty_place call drafted.draft table
+      pub place_is : place ≡ faulty_place call drafted.route.draft table
       pub left : DraftLeaves Drawn meanings.successor now at drafted (Err (Fault call)) old new
 
     -- a file was drawn up, and its name at this place was taken
     pub record TakenBy (at : At) (place : Parts) (old new : Past) : Type 0 where
       pub limit : HasVersionLimit (view at.meta)
       pub drafted : Drafted Drawn meanings.successor table now at
-      pub place_is : place ≡ drafted.draft
+      pub place_is : place ≡ drafted.route.draft
       pub left : DraftLeaves Drawn meanings.successor now at drafted (Err NameTaken) old new
 
     -- the change refused the base so

@@ -5,8 +5,8 @@ use Rattle.ice_store.specs.Places.{Parts}
 use Rattle.ice_store.specs.declared.history.Past.{Past}
 use Rattle.ice_store.specs.declared.faults.ReadErr.TheVariants.{StoreFault}
 use Rattle.commit_publish.specs.Left.{TellsRename}
+use Rattle.commit_protocol.specs.Meanings.{Meanings}
 use Rattle.commit_protocol.specs.Written.{draft_at, version_at}
-use Rattle.commit_protocol.specs.declared.errors.AttemptErr.{AttemptErr}
 use Rattle.commit_protocol.specs.declared.errors.AttemptErr.TheVariants.{Read}
 use Rattle.commit_protocol.specs.declared.errors.CommitErr.{CommitErr}
 use Rattle.commit_protocol.specs.declared.errors.CommitErr.TheVariants.{Attempt, CommitUnknown}
@@ -25,8 +25,8 @@ abbrev pub IsFaultOf : (ℕ → Type 0) → Parts → Parts → List Parts → L
 IsFaultOf Drawn table place had has = (place ≡ table) ⊎ ((id : ℕ) × Drawn id × (place ≡ draft_at table id) × (has ≡ had ++ place ∷ []))
 
 -- or the change refused a base so
-abbrev pub TellsFault : (Data → AttemptErr → Type 0) → (ℕ → Type 0) → Parts → Parts → List Parts → List Parts → Type 0
-TellsFault refuses Drawn table place had has = ((tree : Data) × refuses tree (Read (StoreFault place))) ⊎ IsFaultOf Drawn table place had has
+abbrev pub TellsFault : Meanings → (ℕ → Type 0) → Parts → Parts → List Parts → List Parts → Type 0
+TellsFault meanings Drawn table place had has = ((tree : Data) × meanings.refuses tree (Read (StoreFault place))) ⊎ IsFaultOf Drawn table place had has
 
 -- a commit whose end is unknown: the rename to the version took place, and the new metadata file's name stands in the log; or both names stand there
 pub record IsUnknownEnd (Drawn : ℕ → Type 0) (table : Parts) (version : ℕ) (had has : List Parts) (old new : Past) : Type 0 where

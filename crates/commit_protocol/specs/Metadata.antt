@@ -11,7 +11,7 @@ use Rattle.ice_store.specs.declared.faults.Where.{Where}
 use Rattle.ice_store.specs.declared.faults.Where.TheVariants.{Path}
 use Rattle.ice_store.specs.declared.faults.ReadErr.{ReadErr}
 use Rattle.ice_store.specs.declared.faults.ReadErr.TheVariants.{Missing, Damaged, Unsupported, StoreFault, Memory}
-use Rattle.commit_history.specs.Readings.{Content, Reading, Rules, reading_of, rules_of}
+use Rattle.commit_history.specs.Readings.{Content, IsLocal, Reading, Rules, reading_of, rules_of}
 use Rattle.commit_history.specs.Versions.{number_in}
 use Rattle.metadata_form.specs.declared.fault.MetaCause.{MetaCause}
 use Rattle.metadata_form.specs.declared.fault.MetaCause.TheVariants.{NotJson, Fraction, Version, Field, NoManifestList, DoubleId, BrokenRef, BrokenParent}
@@ -99,6 +99,10 @@ metadata_reading = reading_of metadata_content
 -- and others may take these steps
 abbrev pub metadata_rules : Parts → (Past → Step → Type 0) → Rules
 metadata_rules = rules_of metadata_content
+
+-- that reading looks only at what is reached, since nothing is
+pub metadata_local : (table : Parts) → IsLocal (metadata_reading table)
+metadata_local table = record { stays = λ b c d good same. good; reach = λ b c d good same p r. absurd r; there = λ b c p good r. absurd r }
 
 module _ (table : Parts) (allows : Past → Step → Type 0) where
   -- the last version's bytes, opened, of which this holds
