@@ -94,6 +94,10 @@ pub record Standing : Type 0 where
   pub acknowledged : Tables
   pub unacknowledged : Tables
 
+-- the tables of all commits, in order
+abbrev pub all_tables : Standing → Tables
+all_tables s = s.acknowledged ++ s.unacknowledged
+
 -- what stands once all commits are acknowledged, or none of the open ones
 abbrev pub standing_by : Bool → Disk → Tables → Tables → Standing
 standing_by true disk acknowledged unacknowledged = record { disk = disk; acknowledged = acknowledged ++ unacknowledged; unacknowledged = [] }

@@ -51,10 +51,14 @@ abbrev pub AllProper : Rules → Past → List Event → Type 0
 AllProper rules past [] = Unit {0}
 AllProper rules past (event ∷ events) = IsProperBy rules event.who event.step past × AllProper rules (later past (event ∷ [])) events
 
--- a stop here is safe: the history is steady, and what any image has is whole and a prefix of the commits with every acknowledged one
+-- each image that a stop may leave here is whole, and its table is the last of a prefix of the commits with every acknowledged one
+abbrev pub ImagesReopen : Reading → Past → Type 0
+ImagesReopen reading past = (files : List FileRec) → IsImage (replay past) files → Reopens reading (standing reading.number past) files
+
+-- a stop here is safe: the history is steady, and each image reopens
 pub record IsSafe (reading : Reading) (past : Past) : Type 0 where
   pub steady : IsSteady reading past
-  pub images : (files : List FileRec) → IsImage (replay past) files → Reopens reading (standing reading.number past) files
+  pub images : ImagesReopen reading past
 
 -- a version file that was sealed keeps its bytes
 abbrev pub KeepsVersions : Reading → Past → Past → Type 0

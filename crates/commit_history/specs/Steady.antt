@@ -2,7 +2,7 @@
 use Rattle.std.specs.Prelude.{◌≡◌, ◌⊎◌, ℕ, ◌+◌, false, List, [], ◌∷◌, ◌++◌, Some}
 use Rattle.ice_store.specs.Places.{Parts}
 use Rattle.ice_store.specs.Files.{find, is_named, renamed}
-use Rattle.ice_store.specs.History.{Disk, replay, later}
+use Rattle.ice_store.specs.History.{Disk, later}
 use Rattle.ice_store.specs.declared.history.NameChange.{NameChange}
 use Rattle.ice_store.specs.declared.history.NameChange.TheVariants.{Created, Renamed, Removed}
 use Rattle.ice_store.specs.declared.history.Held.{Held}
@@ -12,7 +12,7 @@ use Rattle.ice_store.specs.declared.history.Step.TheVariants.{Create, Append, Se
 use Rattle.ice_store.specs.declared.history.Who.TheVariants.{Us, Them}
 use Rattle.commit_history.specs.Readings.{Reading}
 use Rattle.commit_history.specs.Tables.{Whole, table, version, IsOutside}
-use Rattle.commit_history.specs.Commits.{Standing, Tables, IsLast, standing}
+use Rattle.commit_history.specs.Commits.{Standing, Tables, IsLast, all_tables, standing}
 
 -- a creation of a place that is neither a version place nor reached
 abbrev pub IsFreshChange : Reading → List Held → NameChange → Type 0
@@ -52,7 +52,7 @@ IsOnlyOld reading d = Each (IsOldChange reading d.files) d.pending
 -- what stands is whole and has the last commit's table, and what is pending has one of three forms: nothing pending is both of the first two
 pub record Steady (reading : Reading) (s : Standing) : Type 0 where
   pub whole : Whole reading s.disk.files
-  pub last : IsLast (s.acknowledged ++ s.unacknowledged) (table reading.number s.disk.files)
+  pub last : IsLast (all_tables s) (table reading.number s.disk.files)
   pub form : IsOnlyFresh reading s.disk ⊎ (IsOnlyOld reading s.disk ⊎ IsOneRename reading s)
 
 -- a history is steady
@@ -90,3 +90,7 @@ IsSteadyStep reading (Seal place) d = IsOnlyFresh reading d × IsUnsealed d.file
 IsSteadyStep reading (Rename from to) d = IsNextRename reading from to d
 IsSteadyStep reading (Remove place) d = IsOnlyOld reading d × IsOutside reading d.files place
 IsSteadyStep reading SyncNames d = Unit {0}
+
+-- a step of Us keeps a history steady, whenever it is taken
+abbrev pub KeepsSteady : Reading → Past → Step → Type 0
+KeepsSteady reading past step = (ms : ℕ) → IsSteady reading past → IsSteady reading (with_ours past step ms)

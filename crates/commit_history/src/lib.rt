@@ -6,22 +6,22 @@
 //! The functions here have empty bodies: their contracts are the laws.
 #![tactic(auto)]
 
-ghost use Rattle.std.specs.Prelude.{◌≡◌, ◌++◌, ◌∷◌, [], ℕ, List};
+ghost use Rattle.std.specs.Prelude.{◌≡◌, ◌++◌, ◌∷◌, [], List};
 ghost use Rattle.ice_store.specs.Places.{Parts};
-ghost use Rattle.ice_store.specs.History.{replay, IsImage};
+ghost use Rattle.ice_store.specs.History.{replay};
 ghost use Rattle.ice_store.specs.Calls.{IsListing};
 ghost use Rattle.ice_store.specs.declared.history.Held.{Held};
 ghost use Rattle.ice_store.specs.declared.store.Listed.{Listed};
 ghost use Rattle.ice_store.specs.declared.history.Past.{Past as Told};
-ghost use Rattle.ice_store.specs.declared.history.FileRec.{FileRec};
 ghost use Rattle.ice_store.specs.declared.history.Step.{Step as Taken};
 ghost use Rattle.commit_history.specs.Readings.{Content, IsLocal, reading_of};
 ghost use Rattle.commit_history.specs.Tables.{version, table as table_of};
-ghost use Rattle.commit_history.specs.Commits.{commits_in, first_disk, tables_of, open_of, standing, Reopens};
+ghost use Rattle.commit_history.specs.Commits.{all_tables, commits_in, first_disk, tables_of, open_of, standing};
 ghost use Rattle.commit_history.specs.Mannered.{IsMannered, with_writers, with_nobody};
 ghost use Rattle.commit_history.specs.Listings.{greatest};
 ghost use Rattle.commit_history.specs.Versions.{number_in, folder};
-ghost use Rattle.commit_history.specs.Steady.{IsSteady, IsSteadyStep, with_ours};
+ghost use Rattle.commit_history.specs.Steady.{IsSteady, IsSteadyStep, KeepsSteady};
+ghost use Rattle.commit_history.specs.Runs.{ImagesReopen};
 
 use ice_store::Place;
 
@@ -37,20 +37,18 @@ pub trait TableReading {
 /// Every image of a steady history is whole, and its table is the last of a prefix of the commits that holds every
 /// acknowledged one.
 pub fn images_reopen<R: TableReading>(table: &Place)
-    ensures { (past : Told) → IsSteady (reading_of R.content table.now) past → (files : List FileRec) → IsImage (replay past) files → Reopens (reading_of R.content table.now) (standing (number_in table.now) past) files }
+    ensures { (past : Told) → IsSteady (reading_of R.content table.now) past → ImagesReopen (reading_of R.content table.now) past }
 {}
 
 /// The commits of a history by what follows each of them: all of them in order, and those that are not acknowledged.
 pub fn commits_stand(table: &Place)
-    ensures all { (past : Told) → (standing (number_in table.now) past).acknowledged ++ (standing (number_in table.now) past).unacknowledged
-        ≡ table_of (number_in table.now) (first_disk past).files ∷ tables_of (commits_in (number_in table.now) past) }
+    ensures all { (past : Told) → all_tables (standing (number_in table.now) past) ≡ table_of (number_in table.now) (first_disk past).files ∷ tables_of (commits_in (number_in table.now) past) }
     ensures open_ones { (past : Told) → (standing (number_in table.now) past).unacknowledged ≡ open_of (commits_in (number_in table.now) past) }
 {}
 
 /// The steps of Us that keep a history steady, each under its condition.
 pub fn steps_stay_steady<R: TableReading>(table: &Place)
-    ensures { (past : Told) (step : Taken) (ms : ℕ) → IsSteady (reading_of R.content table.now) past
-        → IsSteadyStep (reading_of R.content table.now) step (replay past) → IsSteady (reading_of R.content table.now) (with_ours past step ms) }
+    ensures { (past : Told) (step : Taken) → IsSteadyStep (reading_of R.content table.now) step (replay past) → KeepsSteady (reading_of R.content table.now) past step }
 {}
 
 /// The writers of a table keep its histories steady.
@@ -65,6 +63,5 @@ pub fn nobody_is_mannered<R: TableReading>(table: &Place)
 
 /// The greatest version in a listing of the metadata's folder is the version of the map.
 pub fn listing_tells(table: &Place)
-    ensures { (files : List Held) (listed : List Listed) → IsListing (table.now ++ folder ∷ []) files listed
-        → greatest (number_in table.now) listed ≡ version (number_in table.now) files }
+    ensures { (files : List Held) (listed : List Listed) → IsListing (table.now ++ folder ∷ []) files listed → greatest (number_in table.now) listed ≡ version (number_in table.now) files }
 {}

@@ -132,7 +132,7 @@ module _ (x : Work) where
   pub as_partly : (M : List Step → Type 0) (old new : Past) → ((l : List Step) → M l → Partly x.route x.bytes l) → RR M Anything old new → RR (Partly x.route x.bytes) Anything old new
   as_partly M old new turn run = ran_turned x.rules M (Partly x.route x.bytes) Anything Anything old new run turn (λ h. h)
 
-  pub as_any : (M : List Step → Type 0) (old new : Past) → ((l : List Step) → M l → Partly x.route x.bytes l ⊎ Reaching x.route x.bytes l) → RR M Anything old new → RR (PartlyOrReaching x.route x.bytes) Anything old new
+  pub as_any : (M : List Step → Type 0) (old new : Past) → ((l : List Step) → M l → PartlyOrReaching x.route x.bytes l) → RR M Anything old new → RR (PartlyOrReaching x.route x.bytes) Anything old new
   as_any M old new turn run = ran_turned x.rules M (PartlyOrReaching x.route x.bytes) Anything Anything old new run turn (λ h. h)
 
   module _ (old now new : Past) where

@@ -114,7 +114,7 @@ module _ (x : Work) where
     finished (Err (Fault call)) b = turned (Then (draft_plan x.route.draft x.bytes) (Begun (drop_plan x.route))) (Partly x.route x.bytes) old new (λ l t. inr (inr t)) (joined (Begun (drop_plan x.route)) b)
     finished (Err NoMemory) b = turned (Then (draft_plan x.route.draft x.bytes) (λ l. Begun (move_plan x.route) l ⊎ Begun (drop_plan x.route) l)) (PartlyOrReaching x.route x.bytes) old new one (joined (λ l. Begun (move_plan x.route) l ⊎ Begun (drop_plan x.route) l) b)
       where
-        one : (l : List Step) → Then (draft_plan x.route.draft x.bytes) (λ l. Begun (move_plan x.route) l ⊎ Begun (drop_plan x.route) l) l → Partly x.route x.bytes l ⊎ Reaching x.route x.bytes l
+        one : (l : List Step) → Then (draft_plan x.route.draft x.bytes) (λ l. Begun (move_plan x.route) l ⊎ Begun (drop_plan x.route) l) l → PartlyOrReaching x.route x.bytes l
         one l t = elim t.then [
           | inl move ↦ inr (record { rest = t.rest; is = t.is; then = move })
           | inr remove ↦ inl (inr (inr (record { rest = t.rest; is = t.is; then = remove })))

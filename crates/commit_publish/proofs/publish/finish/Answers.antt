@@ -4,7 +4,7 @@ use Rattle.ice_store.specs.Since.{Since}
 use Rattle.ice_store.specs.declared.history.Past.{Past}
 use Rattle.ice_store.specs.declared.store.Moved.{Moved}
 use Rattle.ice_store.proofs.SinceLaws.{since_then, since_turned}
-use Rattle.commit_publish.specs.Stages.{IsBased, IsPublished, Exactly, Anything}
+use Rattle.commit_publish.specs.Stages.{IsBased, IsPublished, Exactly, Anything, move_plan, drop_plan}
 use Rattle.commit_publish.specs.Leaves.{MoveLeaves, DropLeaves, Unmoved, Undropped, RoseBy}
 use Rattle.commit_publish.proofs.CallLaws as calls
 use Rattle.commit_publish.proofs.CallLaws.{RR, K0, KD, KT, KL}
