@@ -21,7 +21,7 @@ ghost use Rattle.commit_protocol.specs.Causes.{CommitRose};
 ghost use Rattle.commit_protocol.specs.Failures.{IsFaultOf, IsUnknownEnd, TellsFault, fault_at, unknown_at};
 ghost use Rattle.commit_protocol.specs.Metadata.{IsMetadata, metadata_rules};
 ghost use Rattle.commit_protocol.specs.Promises.{StopsHavePrefix, StopsHaveFiles, Succeeds};
-ghost use Rattle.commit_protocol.specs.Verdicts.{IsNobody, IsIdle, HasVerdict, IsExactly};
+ghost use Rattle.commit_protocol.specs.Verdicts.{IsNobody, IsIdle, IsCaused, IsExactly};
 ghost use Rattle.commit_protocol.specs.Written.{IsOn, IsWritten, IsUnwritten, CommitLeft, CommitNotes, PublishedLeaves, commits, commit_error_by, version_at};
 
 use crate::change::{Built, Change};
@@ -292,7 +292,7 @@ pub fn commit<M: Manners, S: Store<M>, I: Ids, X: Change<M>>(
     ensures opening { (e : TheOpenErr) → result ≡ Err (CommitErr.Open e) → OpenFaultAt table.now e }
     ensures fault { (place : Parts) → result ≡ fault_at place → TellsFault (X.meanings change.old change.new) (Gives (I.given ids.old) (I.given ids.new)) table.now place log.old.left.items log.new.left.items }
     ensures renamed { (v : ℕ) → result ≡ unknown_at v → Since (S.past store.old) (S.past store.new) (IsUnknownEnd (Gives (I.given ids.old) (I.given ids.new)) table.now v log.old.left.items log.new.left.items) }
-    ensures alone { IsNobody (M.allows (S.manners store.old)) → Since (S.past store.old) (S.past store.new) (HasVerdict (X.meanings change.old change.new) (Gives (I.given ids.old) (I.given ids.new)) table.now now result) }
+    ensures alone { IsNobody (M.allows (S.manners store.old)) → Since (S.past store.old) (S.past store.new) (IsCaused (X.meanings change.old change.new) (Gives (I.given ids.old) (I.given ids.new)) table.now now result) }
     ensures exactly { Since (S.past store.old) (S.past store.new) (IsExactly (M.allows (S.manners store.old)) (X.meanings change.old change.new) (Gives (I.given ids.old) (I.given ids.new)) table.now now result) }
     ensures idle { IsNobody (M.allows (S.manners store.old)) → Since (S.past store.old) (S.past store.new) (IsIdle result) }
     ensures prefix { Since (S.past store.old) (S.past store.new) (StopsHavePrefix table.now) }
