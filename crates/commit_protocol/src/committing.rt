@@ -27,12 +27,11 @@ ghost use Rattle.commit_protocol.specs.Written.{IsOn, IsWritten, IsUnwritten, Co
 use crate::change::{Built, Change};
 use crate::errors::{AttemptErr, CommitErr, Committed};
 use crate::opening::{At, Metadata, open_table};
+use commit_publish::{FailedCall, Log, PublishErr, Route, publish_version};
+use commit_versions::{FILE_LIMIT, draft_place, version_place, version_text};
 use ice_store::{Bytes, Ids, Manners, Place, ReadErr, Store, Text, What, Where};
 use std::alloc::{AllocError, Global};
 use table_metadata::{Meta, write_meta};
-use commit_publish::{FailedCall, Log, PublishErr, Route, publish_version};
-use commit_versions::{draft_place, version_place, version_text};
-use commit_versions::FILE_LIMIT;
 
 /// What a commit needs of its base once the base's metadata is given to the change.
 #[derive(Drop)]
@@ -145,9 +144,9 @@ fn commit_error(e: PublishErr, route: Route, version: u64) -> CommitErr
         PublishErr::NameTaken => CommitErr::Attempt(AttemptErr::NameTaken { place: route.draft }),
         PublishErr::Contended => CommitErr::Contended { version },
         PublishErr::Unknown => CommitErr::CommitUnknown { version },
-        PublishErr::Fault(FailedCall::OnFile) => CommitErr::Attempt(AttemptErr::Read(ReadErr::StoreFault {
-            place: route.draft,
-        })),
+        PublishErr::Fault(FailedCall::OnFile) => CommitErr::Attempt(AttemptErr::Read(
+            ReadErr::StoreFault { place: route.draft },
+        )),
         PublishErr::Fault(FailedCall::OnNames) => CommitErr::Attempt(AttemptErr::Read(
             ReadErr::StoreFault { place: route.table },
         )),

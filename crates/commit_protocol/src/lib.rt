@@ -18,9 +18,9 @@ mod opening;
 mod verdict;
 
 pub use change::{Built, Change};
+pub use commit_publish::Log;
+pub use commit_versions::OpenErr;
 pub use committing::commit;
 pub use errors::{AttemptErr, CommitErr, Committed, Other, Refusal};
 pub use opening::{At, Metadata, open_table};
-pub use commit_publish::Log;
 pub use verdict::{one_commit, one_opening};
-pub use commit_versions::OpenErr;
