@@ -3,6 +3,14 @@ use Rattle.std.specs.Prelude.{ℕ, ◌+◌, ◌-◌, ◌*◌, ◌^◌, ℤ, pos,
 use Rattle.std.specs.Char.{is_ascii_digit}
 use Rattle.std.specs.List.{list_all}
 
+-- the largest number that Iceberg's type `long` has (Iceberg Table Spec, "Primitive Types")
+abbrev pub largest_long : ℕ
+largest_long = 9223372036854775807
+
+-- the largest number that Iceberg's type `int` has (Iceberg Table Spec, "Primitive Types")
+abbrev pub largest_int : ℕ
+largest_int = 2147483647
+
 -- the number of more decimal digits behind those of a number
 abbrev pub number_on : ℕ → List ℕ → ℕ
 number_on n [] = n
@@ -21,12 +29,15 @@ magnitude_from n (d ∷ ds) = if is_ascii_digit d && nat_lt (n * 10 + (d - 48)) 
 abbrev pub ends_long : List ℕ → Bool
 ends_long t = nat_lt 0 (length t) && (slice_index t (length t - 1) == 76 || slice_index t (length t - 1) == 108)
 
+-- without an ending `L` or `l`
 abbrev pub without_mark : List ℕ → List ℕ
 without_mark t = if ends_long t then take (length t - 1) t else t
 
+-- the number, where it is below 2^63
 abbrev pub positive : ℕ → Option ℤ
 positive n = if nat_lt n (2 ^ 63) then Some (pos n) else None
 
+-- the number with a minus sign, where it is at least -2^63
 abbrev pub negative : ℕ → Option ℤ
 negative n = if nat_le n (2 ^ 63) then Some (neg_ℤ (pos n)) else None
 
@@ -39,13 +50,15 @@ unmarked_long (c ∷ cs) = if c == 45 then (if nat_lt 0 (length cs) then option_
 abbrev pub long_of : List ℕ → Option ℤ
 long_of t = unmarked_long (without_mark t)
 
+-- the number, where it is from -2^31 to 2^31 - 1
 abbrev pub int_in : ℤ → Option ℤ
-int_in z = if int_le (neg_ℤ (pos 2147483648)) z && int_le z (pos 2147483647) then Some z else None
+int_in z = if int_le (neg_ℤ (pos (largest_int + 1))) z && int_le z (pos largest_int) then Some z else None
 
 -- the number of a text, where it is one from -2^31 to 2^31 - 1
 abbrev pub int_of : List ℕ → Option ℤ
 int_of t = option_and_then int_in (long_of t)
 
+-- the number, where it is from `least` to `most`
 abbrev pub within : ℕ → ℕ → ℤ → Option ℕ
 within least most (pos n) = if nat_le least n && nat_le n most then Some n else None
 within least most (negsuc n) = None
@@ -54,6 +67,7 @@ within least most (negsuc n) = None
 abbrev pub count_of : ℕ → ℕ → List ℕ → Option ℕ
 count_of least most t = option_and_then (within least most) (long_of t)
 
+-- the number, where it is below 2^63
 abbrev pub below_long : ℕ → Option ℕ
 below_long n = if nat_lt n (2 ^ 63) then Some n else None
 

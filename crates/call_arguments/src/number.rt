@@ -4,6 +4,12 @@ ghost use Rattle.std.specs.Prelude.{◌≡◌, ◌≤◌, ◌<◌, ◌^◌, ◌*
 ghost use Rattle.std.specs.Char.{is_ascii_digit};
 ghost use Rattle.call_arguments.specs.Numbers.{magnitude_of, without_mark, positive, negative, unmarked_long, long_of, int_in, int_of, within, count_of, natural_of};
 
+/// The largest number that Iceberg's type `long` has.
+pub const LARGEST_LONG: u64 = 9_223_372_036_854_775_807;
+
+/// The largest number that Iceberg's type `int` has.
+pub const LARGEST_INT: u64 = 2_147_483_647;
+
 fn one_digit(number: u64, digit: u8) -> Option<u64>
     ensures { result ≡ (if is_ascii_digit digit && nat_lt (number * 10 + (digit - 48)) (2 ^ 64) then Some (number * 10 + (digit - 48)) else None) }
 {
@@ -79,7 +85,7 @@ pub fn long_of(text: &[u8]) -> Option<i64>
 fn int_in(number: i64) -> Option<i32>
     ensures { result ≡ int_in number }
 {
-    if -2_147_483_648 <= number && number <= 2_147_483_647 {
+    if i32::MIN as i64 <= number && number <= i32::MAX as i64 {
         Some(number as i32)
     } else {
         None

@@ -125,6 +125,17 @@ fn step_from_catalog(catalog: Text, token: Token) -> Option<State>
     }
 }
 
+// the procedure's name
+#[tactic(auto, unfolding(crate::specs::Steps::state_step))]
+fn step_from_system(catalog: Text, token: Token) -> Option<State>
+    ensures { result ≡ state_step (State.SystemDot catalog) token }
+{
+    match token {
+        Token::Word(name) | Token::Quoted(name) => Some(State::Procedure(catalog, name)),
+        _ => None,
+    }
+}
+
 // the opening bracket
 #[tactic(auto, unfolding(crate::specs::Steps::state_step))]
 fn step_from_procedure(alloc: Global, catalog: Text, procedure: Text, token: Token) -> Option<State>
@@ -193,12 +204,7 @@ impl State {
                 Token::Dot => Ok(Some(State::SystemDot(catalog))),
                 _ => Ok(None),
             },
-            State::SystemDot(catalog) => match token {
-                Token::Word(name) | Token::Quoted(name) => {
-                    Ok(Some(State::Procedure(catalog, name)))
-                }
-                _ => Ok(None),
-            },
+            State::SystemDot(catalog) => Ok(step_from_system(catalog, token)),
             State::Procedure(catalog, procedure) => {
                 Ok(step_from_procedure(alloc, catalog, procedure, token))
             }

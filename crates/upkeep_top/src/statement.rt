@@ -13,8 +13,8 @@ use crate::report::{report_ancestors, report_move};
 use crate::task::{Task, Work};
 use commit_protocol::{Log, commit, open_table};
 use ice_store::{Alone, Clock, Ids, Place, Sink, Store, Text};
-use run_refs::{Goal, RefMove, list_ancestors};
 use run_answers::{Status, status_of_error, status_of_open};
+use run_refs::{Goal, RefMove, list_ancestors};
 use std::alloc::{AllocError, Global};
 use table_metadata::{EditErr, Meta};
 
@@ -69,15 +69,7 @@ fn run_move<S: Store<Alone>, C: Clock, I: Ids, O: Sink>(
         return Status::OutOfMemory;
     };
     let mut change = RefMove::new(copied, now);
-    match commit::<Alone, S, I, RefMove>(
-        alloc,
-        store,
-        ids,
-        now,
-        &task.table,
-        &mut change,
-        log,
-    ) {
+    match commit::<Alone, S, I, RefMove>(alloc, store, ids, now, &task.table, &mut change, log) {
         Ok(_) => put_report(out, report_move(alloc, goal, &change)),
         Err(e) => status_of_error(task.word, e),
     }
