@@ -38,6 +38,10 @@ pub record Ended (tasks : List Task) (status : Status) (p q : Point) : Type 0 wh
   pub ends : Ends task status from q
   pub last : status ≡ Done → after ≡ []
 
+-- the same, where there are statements
+abbrev pub EndedIfAny : List Task → Status → Point → Point → Type 0
+EndedIfAny tasks status p q = (first : Task) (more : List Task) → tasks ≡ first ∷ more → Ended tasks status p q
+
 -- the words are refused, or there was no memory to read them
 abbrev pub IsRefusal : List (List ℕ) → Status → Type 0
 IsRefusal words status = RefusesWords words status ⊎ (status ≡ OutOfMemory)
