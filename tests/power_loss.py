@@ -233,8 +233,9 @@ class Recorder:
             file.data, file.is_durable = data, False
 
     def note_version(self, path):
-        match = tables.VERSION.fullmatch(os.path.relpath(path, self.disk.top).removeprefix("metadata/"))
-        if match:
+        folder, name = os.path.split(path)
+        match = tables.VERSION.fullmatch(name)
+        if match and folder == f"{self.disk.top}/metadata":
             # one that is there may never be another one
             self.versions.setdefault(int(match[1]), self.disk.names[path])
 

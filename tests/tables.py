@@ -1,5 +1,6 @@
 """The small table that the scripts of this folder work on, and what a run of statements leaves of it."""
 import json
+import os
 import pathlib
 import re
 import shutil
@@ -27,7 +28,7 @@ def files_of(folder):
     for path in sorted(folder.rglob("*")):
         name = str(path.relative_to(folder))
         if path.is_symlink():
-            found[name] = f"link to {path.readlink() if hasattr(path, 'readlink') else ''}"
+            found[name] = f"link to {os.readlink(path)}"
         elif path.is_file():
             found[name] = path.read_bytes()
         else:
