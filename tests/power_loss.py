@@ -29,6 +29,7 @@ import shutil
 import sys
 import tempfile
 
+import reach
 import tables
 import tracer
 
@@ -280,9 +281,9 @@ def fault_of(program, table, state, bounds, versions, first):
         tree = json.loads(found[last])
     except ValueError:
         return f"version {last} isn't whole"
-    for snapshot in tree["snapshots"]:
-        if not below.get(os.path.relpath(snapshot["manifest-list"], table)):
-            return f"{snapshot['manifest-list']} isn't there, and version {last} names it"
+    fault = reach.fault_of(dict(state), tree)
+    if fault:
+        return f"version {last} isn't whole: {fault}"
     return fault_of_opening(program, table, state, chain_of(tree))
 
 
