@@ -1,13 +1,14 @@
 """Has each system call of a run fail, and compares what is left with docs/STATUSES.md: PROGRAM FOLDER.
 
-The run rolls the table of data/three_snapshots back twice, so it publishes the versions 4 and 5. From the program's entry
-point on, each of its system calls in turn
+The run rolls the table of data/three_snapshots back twice, so it publishes the versions 4 and 5. From the program's
+entry point on, each of its system calls in turn
 
 - fails, without being made, with EIO, ENOSPC, EACCES, EINTR (for memory: ENOMEM),
 - is made and then said to have failed with EIO,
 - takes half of its bytes, where it reads or writes some,
 - isn't reached, since the program is killed before it,
-- comes right behind another program that takes the lock and publishes the next version.
+- comes right behind another program that takes the lock and publishes the next version,
+- comes right behind another program that puts a link in the place of the run's new file.
 
 Status, message, reports, names and contents are compared with what docs/STATUSES.md says of the status, and the status
 with the call. Then follow tables and streams in which calls fail by themselves.
@@ -33,10 +34,11 @@ import tracer
 CALLS = ["CALL c.system.rollback_to_snapshot('{T}', 22)", "CALL c.system.rollback_to_snapshot('{T}', 11)"]
 FIRST = 3
 # what `ancestors_of` lists, by the last version
+HEAD = "snapshot_id\ttimestamp\n"
 LISTED = {
-    3: "33\t3000\n22\t2000\n11\t1000\n",
-    4: "22\t2000\n11\t1000\n",
-    5: "11\t1000\n",
+    3: HEAD + "33\t3000\n22\t2000\n11\t1000\n",
+    4: HEAD + "22\t2000\n11\t1000\n",
+    5: HEAD + "11\t1000\n",
 }
 REPORTS = [
     "previous_snapshot_id\tcurrent_snapshot_id\n33\t22\n",
@@ -53,6 +55,7 @@ SYNCS = {"fsync", "fdatasync", "syncfs"}
 UNLOCK = 8
 NONBLOCK = 1
 STDOUT, STDERR = 1, 2
+DRAFT = tables.DRAFT.pattern
 NOBODY = 65534
 
 
@@ -118,7 +121,7 @@ def check_ended(ended, good):
     table = re.escape(str(ended.table))
     messages = {
         0: "",
-        5: f"upkeep: store failed at {table}(/metadata(/v{now}[.]metadata[.]json|/{tables.DRAFT.pattern})?)?\n",
+        5: f"upkeep: store failed at {table}(/metadata(/v{now}[.]metadata[.]json|/{DRAFT})?)?\n",
         6: f"upkeep: commit of version {now + 1} is unknown\n",
         7: "upkeep: output failed\n",
         8: "upkeep: out of memory\n",
@@ -140,7 +143,8 @@ def check_ended(ended, good):
 
 def check_opens(program, ended, last):
     status, out, err = tables.listed(program, ended.table)
-    want((status, out, err) == (0, "snapshot_id\ttimestamp\n" + LISTED[last], ""), f"afterwards the table lists {out!r}, {err!r}")
+    is_same = (status, out, err) == (0, LISTED[last], "")
+    want(is_same, f"afterwards a listing ends with {status} and prints {out!r}, {err!r}")
 
 
 # ---- which status a failed call must have
@@ -152,7 +156,10 @@ def statuses_of(calls, index, number):
     name, args = call.name, call.args
     if name in MEMORY:
         return {0, 8}
-    if name in HARMLESS or (name == "flock" and args[1] & UNLOCK) or (name == "getrandom" and args[2] & NONBLOCK):
+    if name in HARMLESS or (name == "flock" and args[1] & UNLOCK):
+        return {0}
+    if name == "getrandom" and args[2] & NONBLOCK:
+        # of the allocator
         return {0}
     is_again = number == errno.EINTR
     if is_again and name in READS | WRITES:
@@ -195,11 +202,10 @@ def undisturbed(program, work):
     """The calls of a run that nothing disturbs, and what its versions say."""
     table, calls = tables.make_table(work / "undisturbed"), []
     ended = traced(program, table, after=calls.append)
-    want(ended.status == 0 and ended.out == "".join(REPORTS) and ended.err == "", f"an undisturbed run ends otherwise: {ended.told()}")
-    want(not ended.drafts, "an undisturbed run leaves a draft")
+    ends(ended, 0, "", "".join(REPORTS))
+    want(not ended.drafts, "a draft is left")
     found = tables.versions_of(ended.after)
-    want(sorted(found) == [FIRST, FIRST + 1, FIRST + 2], f"an undisturbed run leaves the versions {sorted(found)}")
-    heads = {n: json.loads(data)["current-snapshot-id"] for n, data in found.items()}
+    heads = {number: json.loads(data)["current-snapshot-id"] for number, data in found.items()}
     want(heads == {3: 33, 4: 22, 5: 11}, f"the versions have the current snapshots {heads}")
     good = {number: tables.without_moments(data, table) for number, data in found.items()}
     shutil.rmtree(table)
@@ -294,23 +300,48 @@ def raced(job):
                 want(ended.err == "" and done == len(REPORTS), "it isn't done")
             return ended.status, None
         except Wrong as e:
-            return ended.status, f"another program publishes before call {index}, {calls[index].name}: {e}\n    {ended.told()}"
+            where = f"another program publishes before call {index}, {calls[index].name}"
+            return ended.status, f"{where}: {e}\n    {ended.told()}"
     finally:
         shutil.rmtree(table, ignore_errors=True)
 
 
+def linked(job):
+    """Runs the program with one call before which its new file is replaced by a link: what that names isn't touched."""
+    program, work, calls, _, index, _ = job
+    table = tables.make_table(work / f"{index}-linked")
+    victim = work / f"{index}-victim"
+    victim.write_bytes(b"of another program")
+
+    def before(call):
+        for file in (table / "metadata").iterdir():
+            if call.index == index and tables.DRAFT.fullmatch(file.name):
+                file.unlink()
+                file.symlink_to(victim)
+
+    try:
+        ended = traced(program, table, before)
+        if victim.read_bytes() == b"of another program":
+            return ended.status, None
+        return ended.status, f"its new file is a link before call {index}, {calls[index].name}: the link was followed"
+    finally:
+        shutil.rmtree(table, ignore_errors=True)
+        victim.unlink()
+
+
 def disturb_all(program, work, calls, good):
     """Every call in every way. Answers the complaints."""
-    last = len(calls)
-    jobs = [(disturbed, (program, work, calls, good, it.index, way)) for it in calls[: last - 1] for way in ways_of(it)]
-    jobs += [(raced, (program, work, calls, good, it.index, None)) for it in calls]
+    # the last call is the program's end, which can't fail
+    jobs = [(disturbed, (program, work, calls, good, it.index, way)) for it in calls[:-1] for way in ways_of(it)]
+    jobs += [(what, (program, work, calls, good, it.index, None)) for what in (raced, linked) for it in calls]
     with multiprocessing.Pool(min(8, os.cpu_count() or 1)) as pool:
         answers = pool.map(work_on, jobs, chunksize=4)
     counts = {}
     for status, _ in answers:
         counts[status] = counts.get(status, 0) + 1
-    told = ", ".join(f"{'killed' if status == -signal.SIGKILL else f'status {status}'} {counts[status]}" for status in sorted(counts, reverse=True))
-    print(f"system calls of the run: {len(calls)}; disturbed runs: {len(jobs)} ({told})")
+    killed = counts.pop(-signal.SIGKILL, 0)
+    told = ", ".join(f"{counts[status]} with {status}" for status in sorted(counts))
+    print(f"system calls of the run: {len(calls)}; disturbed runs: {len(jobs)} ({killed} were killed, {told})")
     return [complaint for _, complaint in answers if complaint]
 
 
@@ -403,9 +434,9 @@ def folder_that_may_not_be_written(program, table, good):
     shown = plain(program, table, ["CALL c.system.ancestors_of('{T}')"], user=NOBODY)
     ended = plain(program, table, user=NOBODY)
     (table / "metadata").chmod(0o755)
-    ends(shown, 0, "", "snapshot_id\ttimestamp\n" + LISTED[3])
-    want(re.fullmatch(f"upkeep: store failed at {re.escape(str(table))}/metadata/{tables.DRAFT.pattern}\n", ended.err), "the message is another one")
-    want(ended.status == 5, "the status is to be 5")
+    ends(shown, 0, "", LISTED[3])
+    message = f"upkeep: store failed at {re.escape(str(table))}/metadata/{DRAFT}\n"
+    want(ended.status == 5 and re.fullmatch(message, ended.err), "the new file is to be told with status 5")
     is_unchanged(ended)
 
 
@@ -501,7 +532,7 @@ def full_file_system(program, table, good):
     ended = plain(program, folder)
     want(ended.status == 5, "on a read-only file system the status is to be 5")
     is_unchanged(ended)
-    ends(plain(program, folder, ["CALL c.system.ancestors_of('{T}')"]), 0, "", "snapshot_id\ttimestamp\n" + LISTED[3])
+    ends(plain(program, folder, ["CALL c.system.ancestors_of('{T}')"]), 0, "", LISTED[3])
     subprocess.run(["mount", "-o", "remount,rw", str(room)], check=True)
     ended = plain(program, folder)
     ends(ended, 0, "", "".join(REPORTS))
@@ -552,11 +583,13 @@ def try_full(program, work, good):
     if shutil.which("unshare") is None or shutil.which("mount") is None:
         print("a full and a read-only file system: not tried, since unshare or mount isn't installed")
         return []
-    can = subprocess.run([*words, "sh", "-c", 'mount -t tmpfs -o size=96k upkeep-test "$1"', "", folder], capture_output=True, text=True)
+    outer = 'mount -t tmpfs -o size=96k upkeep-test "$1"'
+    can = subprocess.run([*words, "sh", "-c", outer, "", folder], capture_output=True, text=True)
     if can.returncode != 0:
         print(f"a full and a read-only file system: not tried, since none can be mounted here ({can.stderr.strip()})")
         return []
-    ran = subprocess.run([*words, "sh", "-c", inner, "", folder, sys.executable, __file__, program], capture_output=True, text=True)
+    words += ["sh", "-c", inner, "", folder, sys.executable, __file__, program]
+    ran = subprocess.run(words, capture_output=True, text=True)
     print("a full, a read-only and a freed file system: tried")
     return [] if ran.returncode == 0 else [f"on a small file system: {ran.stdout.strip() or ran.stderr.strip()}"]
 
@@ -578,7 +611,11 @@ def main(words):
     except tracer.Untraceable as e:
         print(f"tests/failing_calls.sh: not tried: {e}")
         return 0
-    complaints = disturb_all(program, work, calls, good) + try_scenes(program, work, good) + try_full(program, work, good)
+    except Wrong as e:
+        print(f"a run that nothing disturbs: {e}", file=sys.stderr)
+        return 1
+    complaints = disturb_all(program, work, calls, good)
+    complaints += try_scenes(program, work, good) + try_full(program, work, good)
     for complaint in complaints:
         print(complaint, file=sys.stderr)
     print(f"{len(complaints)} differences from docs/STATUSES.md")

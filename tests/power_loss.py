@@ -40,9 +40,10 @@ AT_FDCWD = -100
 MOST_SUBSETS = 4096
 
 HARMLESS = set(
-    "read pread64 readv preadv lseek stat fstat lstat newfstatat statx access faccessat faccessat2 getdents getdents64 getcwd"
-    " readlink readlinkat flock brk mprotect munmap mremap madvise rt_sigaction rt_sigprocmask sigaltstack ioctl getrandom poll"
-    " clock_gettime nanosleep clock_nanosleep sched_yield futex prlimit64 rseq exit exit_group close dup dup2 dup3".split()
+    "read pread64 readv preadv lseek stat fstat lstat newfstatat statx access faccessat faccessat2 getdents getdents64"
+    " getcwd readlink readlinkat flock brk mprotect munmap mremap madvise rt_sigaction rt_sigprocmask sigaltstack ioctl"
+    " getrandom poll clock_gettime nanosleep clock_nanosleep sched_yield futex prlimit64 rseq exit exit_group close dup"
+    " dup2 dup3".split()
 )
 OPENS = {"open": (0, 1), "creat": (0, None), "openat": (1, 2)}
 WRITES = {"write", "pwrite64", "writev", "pwritev", "ftruncate", "fallocate", "sendfile"}
@@ -421,13 +422,15 @@ def main():
             faults, recorder = faults_of(program, work, run)
             bad += len(faults)
             part = "" if recorder.is_all else ", a part of those that there are"
-            print(f"{run.name}: {recorder.calls} system calls, {len(recorder.states)} states{part}, {len(faults)} bad")
+            states = f"{len(recorder.states)} states{part}"
+            print(f"{run.name}: {recorder.calls} system calls, {states}, {len(faults)} bad")
             for fault in faults[:10]:
                 print(f"  {fault}", file=sys.stderr)
         for without in ("files", "folders"):
             faults, recorder = faults_of(program, work, runs[0], (without,))
             has_published = len(recorder.versions) > 1
-            print(f"{runs[0].name}, as if no {without} had been synced: {len(recorder.states)} states, {len(faults)} bad")
+            states = f"{len(recorder.states)} states"
+            print(f"{runs[0].name}, as if no {without} had been synced: {states}, {len(faults)} bad")
             if has_published and not faults:
                 print("  read so, the run has to fail", file=sys.stderr)
                 bad += 1

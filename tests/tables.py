@@ -15,7 +15,7 @@ NOW_MS = 10**12
 
 
 def make_table(folder):
-    """A fresh copy of the table: its last version is 3, and its snapshots 11, 22 and 33 are each the parent of the next."""
+    """A fresh copy of the table. Its last version is 3; of its snapshots 11, 22 and 33 each is the next one's parent."""
     shutil.copytree(SOURCE / "metadata", folder / "metadata")
     file = folder / "metadata/v3.metadata.json"
     file.write_text(file.read_text().replace('"/w/t', f'"{folder}'))
@@ -23,7 +23,7 @@ def make_table(folder):
 
 
 def files_of(folder):
-    """What lies below a folder: for each path from there the bytes of a file, the target of a link, or what else it is."""
+    """What lies below a folder: by its path from there a file's bytes, or a word on what else it is."""
     found = {}
     for path in sorted(folder.rglob("*")):
         name = str(path.relative_to(folder))
@@ -38,19 +38,27 @@ def files_of(folder):
 
 def versions_of(files):
     """The version files among files, by their numbers."""
-    numbered = ((VERSION.fullmatch(name[len("metadata/"):]), data) for name, data in files.items() if name.startswith("metadata/"))
-    return {int(match[1]): data for match, data in numbered if match and isinstance(data, bytes)}
+    found = {}
+    for name, data in files.items():
+        match = VERSION.fullmatch(os.path.basename(name))
+        if match and os.path.dirname(name) == "metadata" and isinstance(data, bytes):
+            found[int(match[1])] = data
+    return found
 
 
 def last_version(files):
     return max(versions_of(files), default=0)
 
 
+def is_now(it):
+    return isinstance(it, int) and it > NOW_MS
+
+
 def without_moments(data, folder):
     """What metadata says, but for the moments of a run and the table's own place. None where it isn't whole JSON."""
     def strip(tree):
         if isinstance(tree, dict):
-            return {key: 0 if key.endswith("-ms") and isinstance(it, int) and it > NOW_MS else strip(it) for key, it in tree.items()}
+            return {key: "now" if key.endswith("-ms") and is_now(it) else strip(it) for key, it in tree.items()}
         return [strip(it) for it in tree] if isinstance(tree, list) else tree
 
     try:

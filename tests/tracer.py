@@ -49,7 +49,8 @@ class Registers(ctypes.Structure):
     _fields_ = [
         (name, ctypes.c_ulonglong)
         for name in (
-            "r15 r14 r13 r12 rbp rbx r11 r10 r9 r8 rax rcx rdx rsi rdi orig_rax rip cs eflags rsp ss fs_base gs_base ds es fs gs"
+            "r15 r14 r13 r12 rbp rbx r11 r10 r9 r8 rax rcx rdx rsi rdi orig_rax rip cs eflags rsp ss fs_base gs_base"
+            " ds es fs gs"
         ).split()
     ]
 
@@ -210,17 +211,18 @@ def nothing(*_):
 def run(words, before=nothing, after=nothing, stdout="keep", stderr="keep", prepare=nothing):
     """Runs a program, and answers its status and the bytes that it wrote to the two output streams.
 
-    `before` is asked with each call before it is made, `after` with each one behind it. A stream is a descriptor, or None
-    to have it closed; "keep" has what is written there kept. `prepare` is called in the new process before it begins.
+    `before` is asked with each call before it is made, `after` with each one behind it. A stream is a descriptor, or
+    None to have it closed; "keep" has what is written there kept. `prepare` is called in the new process.
     """
     if platform.machine() != "x86_64" or sys.platform != "linux":
         raise Untraceable("programs are followed on Linux on x86-64 alone")
     with tempfile.TemporaryFile() as out, tempfile.TemporaryFile() as err, open(os.devnull, "rb") as empty:
-        streams = [empty.fileno(), out.fileno() if stdout == "keep" else stdout, err.fileno() if stderr == "keep" else stderr]
+        streams = [empty.fileno()]
+        streams += [kept.fileno() if it == "keep" else it for it, kept in ((stdout, out), (stderr, err))]
         pid = start([os.fspath(word) for word in words], streams, prepare)
         status = os.waitpid(pid, 0)[1]
         if not os.WIFSTOPPED(status):
-            raise Untraceable("this machine lets no program be followed (ptrace is refused), or it can't be started")
+            raise Untraceable("ptrace is refused here, or the program can't be started")
         try:
             request(SETOPTIONS, pid, OPTIONS)
             run_to_entry(pid)
@@ -246,8 +248,9 @@ def main(words):
         subprocess.run(["strace", "-o", log.name, *words], stdout=subprocess.DEVNULL, stderr=subprocess.DEVNULL)
         theirs = [line.split("(")[0] for line in log if "(" in line and not line.startswith(("+", "-"))]
     # strace also tells of the loader's calls
-    same = theirs[-len(ours):] == ours
-    print(f"{len(ours)} system calls from the entry point on, {'the last ones' if same else 'NOT the last ones'} of {len(theirs)} that strace tells of")
+    same = theirs[-len(ours) :] == ours
+    how = "the last ones" if same else "NOT the last ones"
+    print(f"{len(ours)} system calls from the entry point on, {how} of {len(theirs)} that strace tells of")
     sys.exit(0 if same else 1)
 
 
