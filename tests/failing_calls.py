@@ -28,8 +28,10 @@ import subprocess
 import sys
 import tempfile
 
-import tables
-import tracer
+sys.dont_write_bytecode = True
+
+import tables  # noqa: E402
+import tracer  # noqa: E402
 
 CALLS = ["CALL c.system.rollback_to_snapshot('{T}', 22)", "CALL c.system.rollback_to_snapshot('{T}', 11)"]
 FIRST = 3
@@ -353,18 +355,24 @@ def work_on(job):
 # ---- tables and streams in which calls fail by themselves
 
 
-def plain(program, table, calls=CALLS, user=None, words=None, **how):
+def plain(program, table, calls=CALLS, words=None, modes=None, **how):
+    """A run that isn't followed. With `modes`, of paths, it is that of a user whom these bind."""
     files = tables.files_of(table)
+    kept = {path: stat.S_IMODE(path.stat().st_mode) for path in modes or {}}
 
     def become():
-        if user is not None and os.getuid() == 0:
+        if modes and os.getuid() == 0:
             os.setgroups([])
-            os.setgid(user)
-            os.setuid(user)
+            os.setgid(NOBODY)
+            os.setuid(NOBODY)
 
     how = {"stdout": subprocess.PIPE, "stderr": subprocess.PIPE, **how}
     words = tables.statements(table, calls) if words is None else words
+    for path, mode in (modes or {}).items():
+        path.chmod(mode)
     ran = subprocess.run([program, *words], stdin=subprocess.DEVNULL, timeout=120, preexec_fn=become, **how)
+    for path, mode in kept.items():
+        path.chmod(mode)
     return Ended(ran.returncode, ran.stdout or b"", ran.stderr or b"", files, table)
 
 
@@ -402,39 +410,25 @@ def held_lock(program, table, good):
     want(len(ended.drafts) == 1, "the new metadata file stands under neither name")
 
 
-def folder_that_may_not_be_listed(program, table, good):
-    (table / "metadata").chmod(0o311)
-    ended = plain(program, table, user=NOBODY)
-    (table / "metadata").chmod(0o755)
-    ends(ended, 5, f"upkeep: store failed at {table}/metadata\n")
-    is_unchanged(ended)
-
-
-def folder_that_may_not_be_entered(program, table, good):
-    (table / "metadata").chmod(0o600 if os.getuid() else 0o644)
-    ended = plain(program, table, user=NOBODY)
-    (table / "metadata").chmod(0o755)
-    ends(ended, 5, f"upkeep: store failed at {table}/metadata\n")
-    is_unchanged(ended)
+def folder_is_of_mode(mode):
+    def scene(program, table, good):
+        ended = plain(program, table, modes={table / "metadata": mode})
+        ends(ended, 5, f"upkeep: store failed at {table}/metadata\n")
+        is_unchanged(ended)
+    return scene
 
 
 def file_that_may_not_be_read(program, table, good):
-    (table / "metadata/v3.metadata.json").chmod(0)
-    before = stat.S_IMODE((table / "metadata/v3.metadata.json").stat().st_mode)
-    ended = plain(program, table, user=NOBODY) if os.getuid() == 0 else None
-    (table / "metadata/v3.metadata.json").chmod(0o644)
-    if ended is not None:
-        want(before == 0, "the file is of another mode")
-        ends(ended, 5, f"upkeep: store failed at {table}/metadata/v3.metadata.json\n")
-        is_unchanged(Ended(0, b"", b"", ended.before, table))
+    file = table / "metadata/v3.metadata.json"
+    ended = plain(program, table, modes={file: 0})
+    ends(ended, 5, f"upkeep: store failed at {file}\n")
+    is_unchanged(ended)
 
 
 def folder_that_may_not_be_written(program, table, good):
-    (table / "metadata").chmod(0o555)
-    shown = plain(program, table, ["CALL c.system.ancestors_of('{T}')"], user=NOBODY)
-    ended = plain(program, table, user=NOBODY)
-    (table / "metadata").chmod(0o755)
-    ends(shown, 0, "", LISTED[3])
+    modes = {table / "metadata": 0o555}
+    ends(plain(program, table, ["CALL c.system.ancestors_of('{T}')"], modes=modes), 0, "", LISTED[3])
+    ended = plain(program, table, modes=modes)
     message = f"upkeep: store failed at {re.escape(str(table))}/metadata/{DRAFT}\n"
     want(ended.status == 5 and re.fullmatch(message, ended.err), "the new file is to be told with status 5")
     is_unchanged(ended)
@@ -528,12 +522,12 @@ def full_file_system(program, table, good):
     want(ended.status == 5, "on a full file system the status is to be 5")
     is_unchanged(ended, left=1)
     os.truncate(room / "ballast", 0)
-    subprocess.run(["mount", "-o", "remount,ro", str(room)], check=True)
+    subprocess.run(["mount", "-o", "remount,bind,ro", str(room)], check=True)
     ended = plain(program, folder)
     want(ended.status == 5, "on a read-only file system the status is to be 5")
     is_unchanged(ended)
     ends(plain(program, folder, ["CALL c.system.ancestors_of('{T}')"]), 0, "", LISTED[3])
-    subprocess.run(["mount", "-o", "remount,rw", str(room)], check=True)
+    subprocess.run(["mount", "-o", "remount,bind,rw", str(room)], check=True)
     ended = plain(program, folder)
     ends(ended, 0, "", "".join(REPORTS))
     want(tables.last_version(ended.after) == 5, "the last version is to be 5")
@@ -543,8 +537,8 @@ SCENES = {
     "a word isn't UTF-8": word_that_is_not_text,
     "a name in the folder isn't UTF-8": name_that_is_not_text,
     "the lock is held": held_lock,
-    "the folder may not be listed": folder_that_may_not_be_listed,
-    "the folder may not be entered": folder_that_may_not_be_entered,
+    "the folder may not be listed": folder_is_of_mode(0o311),
+    "the folder may not be entered": folder_is_of_mode(0o444),
     "the version file may not be read": file_that_may_not_be_read,
     "the folder may not be written": folder_that_may_not_be_written,
     "the next version's name is a link to a file": next_version_is(lambda place: place.symlink_to("l11.avro")),

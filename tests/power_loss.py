@@ -29,9 +29,11 @@ import shutil
 import sys
 import tempfile
 
-import reach
-import tables
-import tracer
+sys.dont_write_bytecode = True
+
+import reach  # noqa: E402
+import tables  # noqa: E402
+import tracer  # noqa: E402
 
 TOP = pathlib.Path(__file__).resolve().parent.parent
 STDOUT = 1
