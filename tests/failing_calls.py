@@ -8,7 +8,7 @@ entry point on, each of its system calls in turn
 - takes half of its bytes, where it reads or writes some,
 - isn't reached, since the program is killed before it,
 - comes right behind another program that takes the lock and publishes the next version,
-- comes right behind another program that puts a link in the place of the run's new file.
+- comes right behind another program that puts links in the places of the run's new file and its lock.
 
 Status, message, reports, names and contents are compared with what docs/STATUSES.md says of the status, and the status
 with the call. Then follow tables and streams in which calls fail by themselves.
@@ -309,26 +309,34 @@ def raced(job):
 
 
 def linked(job):
-    """Runs the program with one call before which its new file is replaced by a link: what that names isn't touched."""
+    """Runs the program with one call before which its new file is replaced by a link, and its lock as well: what the
+    links name isn't touched."""
     program, work, calls, _, index, _ = job
     table = tables.make_table(work / f"{index}-linked")
-    victim = work / f"{index}-victim"
+    folder, victim, absent = table / "metadata", work / f"{index}-victim", work / f"{index}-absent"
     victim.write_bytes(b"of another program")
 
     def before(call):
-        for file in (table / "metadata").iterdir():
-            if call.index == index and tables.DRAFT.fullmatch(file.name):
-                file.unlink()
-                file.symlink_to(victim)
+        if call.index == index:
+            drafts = [file for file in folder.iterdir() if tables.DRAFT.fullmatch(file.name)]
+            for place, target in [*((file, victim) for file in drafts), (folder / tables.LOCK, absent)]:
+                if os.path.lexists(place):
+                    place.unlink()
+                place.symlink_to(target)
 
     try:
-        ended = traced(program, table, before)
-        if victim.read_bytes() == b"of another program":
-            return ended.status, None
-        return ended.status, f"its new file is a link before call {index}, {calls[index].name}: the link was followed"
+        status = traced(program, table, before).status
+        where = f"links stand in the place of the new file and the lock before call {index}, {calls[index].name}"
+        if victim.read_bytes() != b"of another program":
+            return status, f"{where}: that of the new file was followed"
+        if absent.exists():
+            return status, f"{where}: that of the lock was followed"
+        return status, None
     finally:
         shutil.rmtree(table, ignore_errors=True)
         victim.unlink()
+        with contextlib.suppress(FileNotFoundError):
+            absent.unlink()
 
 
 def disturb_all(program, work, calls, good):
