@@ -8,9 +8,11 @@ use Rattle.avro_container.specs.Long.{written_long}
 use Rattle.avro_container.specs.Writing.{written_text, written_blocks}
 use Rattle.avro_container.specs.Container.{Pair, magic, value_of, SpellsHeader}
 
+-- The count, the size of the body, the body and the marker, in the shortest numbers.
 abbrev pub written_block : List ℕ → ℕ → List ℕ → List ℕ
 written_block sync count body = written_long (pos count) ++ (written_long (pos (length body)) ++ (body ++ sync))
 
+-- The key, and then the value, each behind its length.
 abbrev pub written_pair : Pair → List ℕ
 written_pair e = written_text e.0 ++ written_text e.1
 

@@ -2,5 +2,6 @@
 use Rattle.avro_container.specs.declared.writing.LentPair.{LentPair}
 use Rattle.avro_container.specs.Container.{Pair}
 
+-- The key and the value that were lent.
 abbrev pub pair_seen : LentPair → Pair
 pair_seen p = (p.key.now, p.value.now)

@@ -12,6 +12,7 @@ use Rattle.avro_datum.specs.declared.datum.Datum.{Datum}
 use Rattle.avro_datum.specs.declared.datum.Datum.TheVariants.{Null, Bool as Truth, Int, Long, Float4, Float8, Blob, Str, Fix, Choice, List as Array, Pairs, Fields, Branch}
 use Rattle.avro_datum.specs.Spelling.{most_items}
 
+-- The cause of each fault in what containers and values share, as a value tells it.
 abbrev pub causes : Causes DatumCause
 causes = record { short = Short; too_long = NumberTooLong; bad_utf8 = BadUtf8; negative_length = NegativeLength; bad_size = BadSize; too_many = TooMany }
 
@@ -20,6 +21,7 @@ abbrev pub narrow : ℕ → ℤ × List ℕ → Read DatumCause ℤ
 narrow left (pos n, rest) = if nat_lt n (2 ^ 31) then Ok (pos n, rest) else Err (NumberTooLong, left)
 narrow left (negsuc n, rest) = if nat_lt n (2 ^ 31) then Ok (negsuc n, rest) else Err (NumberTooLong, left)
 
+-- The int that comes first.
 unfoldable pub int_at : List ℕ → Read DatumCause ℤ
 int_at bytes = number_at causes bytes >>= narrow (length bytes)
 
@@ -28,6 +30,7 @@ abbrev pub position : DatumCause → ℕ → ℕ → ℤ × List ℕ → Read Da
 position above count left (pos n, rest) = if nat_lt n count && nat_lt n (2 ^ 32) then Ok (n, rest) else Err (above, left)
 position above count left (negsuc n, rest) = Err (above, left)
 
+-- The position that comes first, below a count.
 unfoldable pub position_at : DatumCause → ℕ → List ℕ → Read DatumCause ℕ
 position_at above count bytes = number_at causes bytes >>= position above count (length bytes)
 
@@ -42,6 +45,7 @@ bool_at (suc (suc b) ∷ rest) = Err (BadBool, length (suc (suc b) ∷ rest))
 unfoldable pub entry_at : (List ℕ → Read DatumCause Datum) → List ℕ → Read DatumCause (List ℕ × Datum)
 entry_at value bytes = string_at causes bytes >>= λ k. value k.1 >>= λ d. Ok ((k.0, d.0), d.1)
 
+-- How many forms there are.
 abbrev pub count_of : Forms → ℕ
 count_of no_forms = 0
 count_of (form f fs) = suc (count_of fs)

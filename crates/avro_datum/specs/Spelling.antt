@@ -16,6 +16,7 @@ abbrev pub IsInt : ℤ → Type 0
 IsInt (pos n) = n < 2 ^ 31
 IsInt (negsuc n) = n < 2 ^ 31
 
+-- The byte of a boolean, 0 or 1.
 abbrev pub truth_byte : Bool → ℕ
 truth_byte false = 0
 truth_byte true = 1

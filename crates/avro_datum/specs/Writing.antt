@@ -46,11 +46,13 @@ unfoldable mutual
 
 -- What a value holds, one level down.
 
+-- The number of an int or a long.
 abbrev pub number_in : Datum-F Datum → ℤ
 number_in (Datum-F.Int n) = n
 number_in (Datum-F.Long n) = n
 number_in _ = pos 0
 
+-- The bytes of a float, a text, a fixed or bytes.
 abbrev pub bytes_in : Datum-F Datum → List ℕ
 bytes_in (Datum-F.Float4 b) = b
 bytes_in (Datum-F.Float8 b) = b
@@ -59,28 +61,34 @@ bytes_in (Datum-F.Str t) = t
 bytes_in (Datum-F.Fix b) = b
 bytes_in _ = []
 
+-- The truth of a boolean.
 abbrev pub truth_in : Datum-F Datum → Bool
 truth_in (Datum-F.Bool t) = t
 truth_in _ = false
 
+-- The items of an array, or the values of a record.
 abbrev pub items_in : Datum-F Datum → List Datum
 items_in (Datum-F.List ds) = ds
 items_in (Datum-F.Fields ds) = ds
 items_in _ = []
 
+-- The entries of a map.
 abbrev pub entries_in : Datum-F Datum → List (List ℕ × Datum)
 entries_in (Datum-F.Pairs ds) = ds
 entries_in _ = []
 
+-- The position of an enum's symbol, or of a union's branch.
 abbrev pub position_in : Datum-F Datum → ℕ
 position_in (Datum-F.Choice n) = n
 position_in (Datum-F.Branch n d) = n
 position_in _ = 0
 
+-- The value of a union's branch.
 abbrev pub inner_in : Datum-F Datum → Datum
 inner_in (Datum-F.Branch n d) = d
 inner_in _ = Null
 
+-- A key and its value, the value written so.
 unfoldable pub written_entry : (Datum → List ℕ) → List ℕ × Datum → List ℕ
 written_entry w e = written_text e.0 ++ w e.1
 

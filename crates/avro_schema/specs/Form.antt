@@ -5,6 +5,7 @@ use Rattle.avro_schema.specs.declared.schema.Field.{Field, fold-Field}
 use Rattle.avro_schema.specs.declared.schema.Schema.TheOpen.{Schema-F, Field-F}
 
 mutual
+  -- the form of a type: all of it that decides how its values are spelled
   pub data Form : Type 0 where
     null : Form
     boolean : Form
@@ -27,17 +28,21 @@ mutual
     -- of such branches
     union : Forms → Form
 
+  -- the forms of a record's fields, or of a union's branches
   pub data Forms : Type 0 where
     no_forms : Forms
     form : Form → Forms → Forms
 
+-- a list of forms as such
 abbrev pub forms_of : List Form → Forms
 forms_of [] = no_forms
 forms_of (f ∷ fs) = form f (forms_of fs)
 
+-- the form of a field is that of its type
 abbrev pub field_step : Field-F Form Form → Form
 field_step f = f.schema
 
+-- the form of a type, by those of the types within it
 abbrev pub form_step : Schema-F Form Form → Form
 form_step Schema-F.Null = null
 form_step Schema-F.Bool = boolean
@@ -54,9 +59,11 @@ form_step (Schema-F.Pairs value key_id value_id) = pairs value
 form_step (Schema-F.Fields name fs) = fields (forms_of fs)
 form_step (Schema-F.Union branches) = union (forms_of branches)
 
+-- the form of a type
 abbrev pub form_of : Schema → Form
 form_of = fold-Schema Form Form form_step field_step
 
+-- the form of a field's type
 abbrev pub field_form : Field → Form
 field_form = fold-Field Form Form form_step field_step
 

@@ -6,12 +6,15 @@ use Rattle.avro_schema.specs.Attribute.{text_at, is_text, u32_of, flag_at}
 use Rattle.avro_schema.specs.declared.schema.Logical.{Logical}
 use Rattle.avro_schema.specs.declared.schema.Logical.TheVariants.{Plain, Date, TimeMicros, TimestampMicros, Decimal, Uuid}
 
+-- the type names this logical type
 unfoldable pub has_logical : List ℕ → Data → Bool
 has_logical word d = is_text word (text_at (codes "logicalType") d)
 
+-- the logical type of an int
 unfoldable pub int_logical : Data → Logical
 int_logical d = if has_logical (codes "date") d then Date else Plain
 
+-- the logical type of a long
 unfoldable pub long_logical : Data → Logical
 long_logical d = if has_logical (codes "time-micros") d then TimeMicros
     else (if has_logical (codes "timestamp-micros") d then TimestampMicros (flag_at (codes "adjust-to-utc") d) else Plain)
@@ -21,21 +24,26 @@ abbrev pub scale_of : Option Data → Option ℕ
 scale_of None = Some 0
 scale_of (Some d) = u32_of d
 
+-- the precision, which a decimal can't lack
 abbrev pub precision_of : Option Data → Option ℕ
 precision_of None = None
 precision_of (Some d) = u32_of d
 
+-- a decimal where both its numbers are there
 abbrev pub decimal_from : Option ℕ → Option ℕ → Logical
 decimal_from None scale = Plain
 decimal_from (Some precision) None = Plain
 decimal_from (Some precision) (Some scale) = Decimal precision scale
 
+-- a decimal by its precision and its scale, where both are whole numbers of 32 bits
 unfoldable pub decimal_of : Data → Logical
 decimal_of d = decimal_from (precision_of (get (codes "precision") d)) (scale_of (get (codes "scale") d))
 
+-- the logical type of bytes
 unfoldable pub bytes_logical : Data → Logical
 bytes_logical d = if has_logical (codes "decimal") d then decimal_of d else Plain
 
+-- the logical type of a string
 unfoldable pub string_logical : Data → Logical
 string_logical d = if has_logical (codes "uuid") d then Uuid else Plain
 

@@ -86,9 +86,11 @@ SpellsWithin (suc left) d names s after = SpellsLevel (SpellsWithin left) (suc l
 
 -- The limits.
 
+-- how many types may lie within one another
 abbrev pub most_types : ℕ
 most_types = 32
 
+-- how many record fields a schema may have in all
 abbrev pub most_fields : ℕ
 most_fields = 4096
 

@@ -1,6 +1,7 @@
 ghost use Rattle.std.specs.Prelude.{◌≡◌, IfOk};
 
-use crate::schema::{Field, FieldList, Schema, SchemaList};
+use crate::schema::{Field, FieldList, Logical, Schema, SchemaList};
+use crate::text::{Text, TextList};
 use sqlite_items::{Boxed, Items};
 use std::alloc::{AllocError, Global};
 
@@ -11,6 +12,25 @@ impl Schema {
     {
         copy_schema(alloc, self)
     }
+}
+
+fn copy_fixed(name: &Text, size: u32, logical: Logical) -> Result<Schema, AllocError>
+    ensures { IfOk result (λ s. s ≡ Schema.Fix name.now size logical) }
+{
+    Ok(Schema::Fix {
+        name: name.copy()?,
+        size,
+        logical,
+    })
+}
+
+fn copy_choice(alloc: Global, name: &Text, symbols: &TextList) -> Result<Schema, AllocError>
+    ensures { IfOk result (λ s. s ≡ Schema.Choice name.now symbols.now) }
+{
+    Ok(Schema::Choice {
+        name: name.copy()?,
+        symbols: symbols.copy(alloc)?,
+    })
 }
 
 #[cycle(copy)]
@@ -30,15 +50,8 @@ fn copy_schema(alloc: Global, schema: &Schema) -> Result<Schema, AllocError>
             name,
             size,
             logical,
-        } => Schema::Fix {
-            name: name.copy()?,
-            size: *size,
-            logical: *logical,
-        },
-        Schema::Choice { name, symbols } => Schema::Choice {
-            name: name.copy()?,
-            symbols: symbols.copy(alloc)?,
-        },
+        } => copy_fixed(name, *size, *logical)?,
+        Schema::Choice { name, symbols } => copy_choice(alloc, name, symbols)?,
         Schema::List {
             item,
             element_id,

@@ -19,17 +19,21 @@ use Rattle.call_arguments.specs.Forms.{fits, bad_option}
 
 -- ---- the value that is given for an argument
 
+-- NULL
 abbrev pub is_null : ArgValue → Bool
 is_null values.Null = true
 is_null _ = false
 
+-- the line is one of this argument
 abbrev pub goes_by : Option ArgLine → ArgName → Bool
 goes_by None n = false
 goes_by (Some l) n = same_argument l.name n
 
+-- the argument at this place stands for the one of this name, and is not NULL
 abbrev pub stands_for : Procedure → ℕ → Arg → ArgName → Bool
 stands_for p place a n = goes_by (line_for p place a.name) n && not (is_null a.value)
 
+-- the value of the first of these arguments that stands for this name; the first of them is at this place
 abbrev pub value_from : Procedure → ℕ → List Arg → ArgName → Option ArgValue
 value_from p place [] n = None
 value_from p place (a ∷ rest) n = if stands_for p place a n then Some a.value else value_from p (place + 1) rest n
@@ -38,11 +42,13 @@ value_from p place (a ∷ rest) n = if stands_for p place a n then Some a.value 
 abbrev pub value_of : Procedure → List Arg → ArgName → Option ArgValue
 value_of p args n = value_from p 0 args n
 
+-- the argument is given
 abbrev pub is_given : Procedure → List Arg → ArgName → Bool
 is_given p args n = is_some (value_of p args n)
 
 -- ---- right and wrong arguments
 
+-- a place under a table's place; where the table's text names none, nothing is said
 abbrev pub place_is_under : Result Parts ℕ → Result Parts ℕ → Bool
 place_is_under (Err at) location = true
 place_is_under (Ok table) (Ok location) = is_under location table
@@ -52,6 +58,7 @@ place_is_under (Ok table) (Err at) = false
 abbrev pub is_within : List ℕ → List ℕ → Bool
 is_within table location = place_is_under (place_in table) (place_in location)
 
+-- the location is within the table that was given; nothing is said where none was
 abbrev pub is_under_table : Option ArgValue → List ℕ → Bool
 is_under_table (Some (values.Str table)) location = is_within table location
 is_under_table _ location = true
@@ -70,6 +77,7 @@ stands_beside p args _ value = true
 abbrev pub is_right : Procedure → List Arg → ArgLine → ArgValue → Bool
 is_right p args l value = fits l.form value && stays_within p args l.form value && stands_beside p args l.presence value
 
+-- an earlier line is of the same argument
 abbrev pub is_repeated : List ArgLine → ArgLine → Bool
 is_repeated seen l = list_any (λ (other : ArgLine). same_argument other.name l.name) seen
 
@@ -86,6 +94,7 @@ own_name place None = codes "#" ++ decimal (place + 1)
 abbrev pub line_or_option : List ArgLine → ArgLine → Arg → List ℕ
 line_or_option seen l a = if is_repeated seen l then argument_name l.name else unwrap_or (bad_option l.form a.value) (argument_name l.name)
 
+-- by the line that the argument goes by, or as it is called where it goes by none
 abbrev pub name_by : Option ArgLine → List ArgLine → Arg → List ℕ
 name_by None seen a = own_name (length seen) a.name
 name_by (Some l) seen a = line_or_option seen l a
@@ -94,6 +103,7 @@ name_by (Some l) seen a = line_or_option seen l a
 abbrev pub wrong_name : Procedure → List ArgLine → Arg → List ℕ
 wrong_name p seen a = name_by (line_for p (length seen) a.name) seen a
 
+-- the name where there is no line, and else what follows on the line
 abbrev pub go_on : Option ArgLine → List ℕ → (ArgLine → Option (List ℕ)) → Option (List ℕ)
 go_on None name rest = Some name
 go_on (Some l) name rest = rest l
@@ -106,11 +116,13 @@ first_wrong p args seen (a ∷ rest) = go_on (right_line p args seen a) (wrong_n
 
 -- ---- lacking arguments
 
+-- an argument with this presence must stand among these
 abbrev pub must_stand : Procedure → List Arg → Presence → Bool
 must_stand p args Required = true
 must_stand p args (Unless other) = not (is_given p args other)
 must_stand p args _ = false
 
+-- the line's argument must stand and isn't given
 abbrev pub lacks : Procedure → List Arg → ArgLine → Bool
 lacks p args l = must_stand p args l.presence && not (is_given p args l.name)
 
@@ -118,6 +130,7 @@ lacks p args l = must_stand p args l.presence && not (is_given p args l.name)
 abbrev pub first_lacking : Procedure → List Arg → Option (List ℕ)
 first_lacking p args = option_map (λ (l : ArgLine). argument_name l.name) (find (lacks p args) (arguments_of p))
 
+-- the first of two names that there is
 abbrev pub first_of : Option (List ℕ) → Option (List ℕ) → Option (List ℕ)
 first_of None other = other
 first_of (Some n) other = Some n

@@ -3,6 +3,7 @@
 use Rattle.std.specs.Prelude.{ℕ, Bool, true, false, not, ◌&&◌, List, [], ◌∷◌, ◌++◌, find, codes, Option, Some, None, is_some, nat_le, option_map, option_and_then, if◌then◌else◌}
 use Rattle.std.specs.List.{list_any}
 use Rattle.std.specs.Str.{bytes_eq}
+use Rattle.ice_store.specs.Numbers.{natural_of}
 use Rattle.call_arguments.specs.declared.options.Rewrite.{Rewrite}
 use Rattle.call_arguments.specs.declared.options.Rewrite.TheVariants.{Data, Deletes}
 use Rattle.call_arguments.specs.declared.options.OptionName.{OptionName}
@@ -10,8 +11,8 @@ use Rattle.call_arguments.specs.declared.options.OptionName.TheVariants.{TargetF
 use Rattle.call_arguments.specs.declared.options.OptionForm.{OptionForm}
 use Rattle.call_arguments.specs.declared.options.OptionForm.TheVariants.{From0, From1, Flag}
 use Rattle.call_arguments.specs.declared.options.OptionLine.{OptionLine}
-use Rattle.call_arguments.specs.Numbers.{natural_of}
 
+-- how an option is spelled
 unfoldable pub option_name : OptionName → List ℕ
 option_name TargetFileSizeBytes = codes "target-file-size-bytes"
 option_name MinFileSizeBytes = codes "min-file-size-bytes"
@@ -26,6 +27,7 @@ option_name DeleteFileThreshold = codes "delete-file-threshold"
 option_name UseStartingSequenceNumber = codes "use-starting-sequence-number"
 option_name RemoveDanglingDeletes = codes "remove-dangling-deletes"
 
+-- a line: the option's name and the form of its text
 abbrev pub option : OptionName → OptionForm → OptionLine
 option n f = record { name = n; form = f }
 
@@ -47,6 +49,7 @@ unfoldable pub options_of : Rewrite → List OptionLine
 options_of Data = common_and (option DeleteFileThreshold From1 ∷ option UseStartingSequenceNumber Flag ∷ option RemoveDanglingDeletes Flag ∷ [])
 options_of Deletes = common_and []
 
+-- the flag that a text is
 abbrev pub flag_of : List ℕ → Option Bool
 flag_of t = if bytes_eq t (codes "true") then Some true else (if bytes_eq t (codes "false") then Some false else None)
 
@@ -55,6 +58,7 @@ abbrev pub is_from_1 : Option ℕ → Bool
 is_from_1 None = false
 is_from_1 (Some n) = nat_le 1 n
 
+-- the text is of the form
 abbrev pub option_fits : OptionForm → List ℕ → Bool
 option_fits From0 t = is_some (natural_of t)
 option_fits From1 t = is_from_1 (natural_of t)
@@ -64,6 +68,7 @@ option_fits Flag t = is_some (flag_of t)
 abbrev pub option_line : List OptionLine → List ℕ → Option OptionLine
 option_line lines key = find (λ (l : OptionLine). bytes_eq key (option_name l.name)) lines
 
+-- the option is known and the text is of its form
 abbrev pub line_fits : Option OptionLine → List ℕ → Bool
 line_fits None t = false
 line_fits (Some l) t = option_fits l.form t
@@ -81,8 +86,10 @@ first_bad_option lines earlier (p ∷ ps) = if is_right_option lines earlier p t
 abbrev pub option_value : List (List ℕ × List ℕ) → OptionName → Option (List ℕ)
 option_value pairs name = option_map (λ (p : List ℕ × List ℕ). p.1) (find (λ (p : List ℕ × List ℕ). bytes_eq p.0 (option_name name)) pairs)
 
+-- the number that an option is given as
 abbrev pub number_option : List (List ℕ × List ℕ) → OptionName → Option ℕ
 number_option pairs name = option_and_then natural_of (option_value pairs name)
 
+-- the flag that an option is given as
 abbrev pub flag_option : List (List ℕ × List ℕ) → OptionName → Option Bool
 flag_option pairs name = option_and_then flag_of (option_value pairs name)

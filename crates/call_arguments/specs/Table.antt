@@ -20,6 +20,7 @@ use Rattle.call_arguments.specs.declared.options.Rewrite.TheVariants as rewrites
 abbrev pub same_letters : List ℕ → List ℕ → Bool
 same_letters a b = bytes_eq (map to_ascii_lowercase a) (map to_ascii_lowercase b)
 
+-- how a procedure is spelled
 unfoldable pub procedure_name : Procedure → List ℕ
 procedure_name RollbackToSnapshot = codes "rollback_to_snapshot"
 procedure_name SetCurrentSnapshot = codes "set_current_snapshot"
@@ -33,6 +34,7 @@ procedure_name RewritePositionDeleteFiles = codes "rewrite_position_delete_files
 procedure_name RewriteTablePath = codes "rewrite_table_path"
 procedure_name Generate = codes "generate"
 
+-- all procedures
 abbrev pub procedures : List Procedure
 procedures =
     RollbackToSnapshot
@@ -53,6 +55,7 @@ procedure_named name = find (λ (p : Procedure). same_letters name (procedure_na
 
 -- ---- arguments
 
+-- how an argument is spelled
 unfoldable pub argument_name : ArgName → List ℕ
 argument_name names.Table = codes "table"
 argument_name names.SnapshotId = codes "snapshot_id"
@@ -102,6 +105,7 @@ unless other n f = line n f (presences.Unless other)
 abbrev pub without : ArgName → ArgName → Form → ArgLine
 without other n f = line n f (presences.Without other)
 
+-- the line of the table, which each procedure has first
 abbrev pub table : ArgLine
 table = needed names.Table forms.Place
 
@@ -120,9 +124,11 @@ arguments_of RewritePositionDeleteFiles = table ∷ optional names.Options (form
 arguments_of RewriteTablePath = table ∷ needed names.SourcePrefix forms.Place ∷ needed names.TargetPrefix forms.Place ∷ optional names.StartVersion forms.Later ∷ optional names.EndVersion forms.Later ∷ optional names.StagingLocation forms.Place ∷ []
 arguments_of Generate = table ∷ needed names.Number forms.LongFrom0 ∷ needed names.Rows forms.RowCount ∷ []
 
+-- the same argument
 abbrev pub same_argument : ArgName → ArgName → Bool
 same_argument a b = bytes_eq (argument_name a) (argument_name b)
 
+-- it is given by its name only
 abbrev pub is_by_name : Presence → Bool
 is_by_name presences.ByName = true
 is_by_name _ = false

@@ -3,13 +3,16 @@ ghost use Rattle.std.specs.Prelude.{◌≡◌, IfOk, is_some, is_none, option_co
 ghost use Rattle.std.specs.List.{list_all};
 ghost use Rattle.call_arguments.specs.Forms.{is_place, is_long, fits_text, fits_number, fits_flag, fits_moment, fits_array, bad_option, bad_key, fits_map, fits};
 
-use crate::number::{count_of, int_of, long_of};
+use crate::number::{LARGEST_INT, count_of, int_of, long_of};
 use crate::options::{first_bad_option, options_of};
 use crate::table::Form;
 use call_moments::moment_of;
 use call_text::ArgValue;
-use ice_store::{Place, PlaceErr, Text};
+use ice_store::{LARGEST_LONG, Place, PlaceErr, Text};
 use std::alloc::{AllocError, Global};
+
+// how many rows are generated at most
+const MOST_ROWS: u64 = 10_000_000;
 
 fn is_place(alloc: Global, text: &Text) -> Result<bool, AllocError>
     ensures { IfOk result (λ b. b ≡ is_place text.now) }
@@ -43,10 +46,10 @@ fn fits_number(form: Form, text: &Text) -> bool
 {
     match form {
         Form::Long => is_long(text),
-        Form::LongFrom0 => count_of(0, 9_223_372_036_854_775_807, text.inner()).is_some(),
-        Form::RowCount => count_of(1, 10_000_000, text.inner()).is_some(),
+        Form::LongFrom0 => count_of(0, LARGEST_LONG, text.inner()).is_some(),
+        Form::RowCount => count_of(1, MOST_ROWS, text.inner()).is_some(),
         Form::Int => int_of(text.inner()).is_some(),
-        Form::IntFrom1 => count_of(1, 2_147_483_647, text.inner()).is_some(),
+        Form::IntFrom1 => count_of(1, LARGEST_INT, text.inner()).is_some(),
         _ => false,
     }
 }

@@ -27,6 +27,7 @@ abbrev pub target_by : Option (List ℕ) → Option ArgValue → Target
 target_by (Some name) id = Ref name
 target_by None id = Id (needed_long id)
 
+-- the target of a statement that has a snapshot's id or a ref's name
 abbrev pub target_of : Option ArgValue → Option ArgValue → Target
 target_of id name = target_by (text_value name) id
 
@@ -84,10 +85,12 @@ command_of procedures.RewritePositionDeleteFiles args = rewrite_deletes args
 command_of procedures.RewriteTablePath args = relocate args
 command_of procedures.Generate args = generate args
 
+-- the command, or the name for which its arguments are refused
 abbrev pub unless_refused : Option (List ℕ) → Command → Result Command (List ℕ)
 unless_refused None command = Ok command
 unless_refused (Some name) command = Err name
 
+-- by the procedure that the statement names, if there is one
 abbrev pub typed_by : Option Procedure → Call → Result Command (List ℕ)
 typed_by None call = Err call.procedure
 typed_by (Some p) call = unless_refused (bad_argument p call.args) (command_of p call.args)

@@ -4,10 +4,12 @@ ghost use Rattle.std.specs.Prelude.{◌≡◌, [], IfOk, option_copied, map};
 ghost use Rattle.call_syntax.specs.Values.{place_of, place_value, needed_place, text_value, needed_text, long_value, needed_long, int_value, count_value, needed_count, flag_value, moment_value, long_or_zero, ids_value, pairs_value, option_values};
 
 use crate::command::{IdList, OptionValues};
-use call_arguments::{OptionName, count_of, flag_option, int_of, long_of, number_option};
+use call_arguments::{
+    LARGEST_INT, OptionName, count_of, flag_option, int_of, long_of, number_option,
+};
 use call_moments::moment_of;
 use call_text::ArgValue;
-use ice_store::{Items, Place, PlaceErr, Text};
+use ice_store::{Items, LARGEST_LONG, Place, PlaceErr, Text};
 use std::alloc::{AllocError, Global};
 
 // the place that a text names
@@ -103,7 +105,7 @@ pub(crate) fn count_value(value: Option<&ArgValue>) -> Option<u64>
     ensures { result ≡ count_value (option_copied value.entry) }
 {
     match value {
-        Some(ArgValue::Number(number)) => count_of(0, 9_223_372_036_854_775_807, number.inner()),
+        Some(ArgValue::Number(number)) => count_of(0, LARGEST_LONG, number.inner()),
         _ => None,
     }
 }
@@ -183,7 +185,7 @@ fn options_in(pairs: &[(Text, Text)]) -> OptionValues
         partial: flag_option(pairs, OptionName::PartialProgressEnabled).unwrap_or(false),
         max_commits: number_option(pairs, OptionName::PartialProgressMaxCommits).unwrap_or(10),
         concurrent: number_option(pairs, OptionName::MaxConcurrentFileGroupRewrites).unwrap_or(5),
-        threshold: number_option(pairs, OptionName::DeleteFileThreshold).unwrap_or(2_147_483_647),
+        threshold: number_option(pairs, OptionName::DeleteFileThreshold).unwrap_or(LARGEST_INT),
         keep_sequence: flag_option(pairs, OptionName::UseStartingSequenceNumber).unwrap_or(true),
         dangling: flag_option(pairs, OptionName::RemoveDanglingDeletes).unwrap_or(false),
     }

@@ -53,6 +53,7 @@ abbrev pub IsLead : Option (List ℕ) → List Token → Type 0
 IsLead None ts = ts ≡ []
 IsLead (Some n) ts = (t : Token) × IsName n t × (ts ≡ t ∷ Arrow ∷ [])
 
+-- the argument has a name
 abbrev pub is_named : Option (List ℕ) → Bool
 is_named None = false
 is_named (Some n) = true

@@ -11,6 +11,7 @@ use Rattle.call_text.specs.declared.keyword.Keyword.TheVariants as words
 abbrev pub lower : List ℕ → List ℕ
 lower w = map to_ascii_lowercase w
 
+-- how a word of the language is spelled, in lower case
 unfoldable pub spelling : Keyword → List ℕ
 spelling words.Call = codes "call"
 spelling words.System = codes "system"
@@ -46,5 +47,6 @@ keyword_of w =
 abbrev pub keyword : List ℕ → Option Keyword
 keyword w = keyword_of (lower w)
 
+-- the letters are this word
 abbrev pub is_keyword : Keyword → List ℕ → Bool
 is_keyword k w = bytes_eq (lower w) (spelling k)

@@ -27,10 +27,10 @@ spaced t = record { token = t; blank = true }
 -- a character of a string: ' and \ stand behind a backslash, a line feed is \n and a tab \t, and no other is escaped
 abbrev pub escape : ℕ → List ℕ
 escape b =
-    if b == 39 then backslash ∷ 39 ∷ []
-    else (if b == backslash then backslash ∷ backslash ∷ []
-    else (if b == 10 then backslash ∷ 110 ∷ []
-    else (if b == 9 then backslash ∷ 116 ∷ []
+    if b == 39 then codes "\\'"
+    else (if b == backslash then codes "\\\\"
+    else (if b == 10 then codes "\\n"
+    else (if b == 9 then codes "\\t"
     else b ∷ [])))
 
 -- strings stand in '
@@ -46,9 +46,11 @@ token_text tokens.Close = codes ")"
 token_text tokens.Arrow = codes "=>"
 token_text tokens.Semicolon = codes ";"
 
+-- one blank, or nothing
 abbrev pub blank_text : Bool → List ℕ
-blank_text b = if b then 32 ∷ [] else []
+blank_text b = if b then codes " " else []
 
+-- the token's text, and the blank behind it
 unfoldable pub piece_text : Piece → List ℕ
 piece_text p = token_text p.token ++ blank_text p.blank
 
@@ -60,6 +62,7 @@ name_token n = if is_plain n then tokens.Word n else tokens.Quoted n
 abbrev pub pair_pieces : List ℕ × List ℕ → List Piece
 pair_pieces p = spaced tokens.Comma ∷ plain (tokens.Str p.0) ∷ spaced tokens.Comma ∷ plain (tokens.Str p.1) ∷ []
 
+-- a number behind a comma
 abbrev pub number_pieces : List ℕ → List Piece
 number_pieces n = spaced tokens.Comma ∷ plain (tokens.Number n) ∷ []
 
@@ -79,6 +82,7 @@ abbrev pub lead_pieces : Option (List ℕ) → List Piece
 lead_pieces None = []
 lead_pieces (Some n) = spaced (name_token n) ∷ spaced tokens.Arrow ∷ []
 
+-- an argument behind a comma
 unfoldable pub arg_pieces : Arg → List Piece
 arg_pieces a = spaced tokens.Comma ∷ (lead_pieces a.name ++ value_pieces a.value)
 
@@ -86,6 +90,7 @@ arg_pieces a = spaced tokens.Comma ∷ (lead_pieces a.name ++ value_pieces a.val
 abbrev pub head_pieces : Call → List Piece
 head_pieces c = spaced (tokens.Word (codes "CALL")) ∷ plain (name_token c.catalog) ∷ plain tokens.Dot ∷ plain (tokens.Word (codes "system")) ∷ plain tokens.Dot ∷ plain (name_token c.procedure) ∷ plain tokens.Open ∷ []
 
+-- all pieces of a call
 abbrev pub call_pieces : Call → List Piece
 call_pieces c = head_pieces c ++ (drop 1 (flat_map arg_pieces c.args) ++ plain tokens.Close ∷ [])
 
@@ -96,23 +101,28 @@ written c = flat_map piece_text (call_pieces c)
 -- What can be written: a name has at least one character and no backquote, a number has a number's form, and all
 -- arguments have names, or none has.
 
+-- a name that can be written
 abbrev pub CanBeName : List ℕ → Type 0
 CanBeName name = IsBetweenBackquotes name
 
+-- a value that can be written
 abbrev pub CanBeValue : ArgValue → Type 0
 CanBeValue (values.Number n) = IsNumber n
 CanBeValue (values.Array ns) = AllByRecursion IsNumber ns
 CanBeValue _ = Unit {0}
 
+-- a name that can be written, or none
 abbrev pub CanBeLead : Option (List ℕ) → Type 0
 CanBeLead None = Unit {0}
 CanBeLead (Some n) = CanBeName n
 
+-- an argument that can be written, which has a name or has none
 pub record CanBeArg (named : Bool) (a : Arg) : Type 0 where
   pub kind : is_named a.name ≡ named
   pub name : CanBeLead a.name
   pub value : CanBeValue a.value
 
+-- a call that can be written
 pub record CanBeWritten (c : Call) : Type 0 where
   pub named : Bool
   pub catalog : CanBeName c.catalog
@@ -121,11 +131,14 @@ pub record CanBeWritten (c : Call) : Type 0 where
 
 -- ---- the text of each item of a list
 
+-- of a pair in a map
 abbrev pub pair_text : List ℕ × List ℕ → List ℕ
 pair_text p = flat_map piece_text (pair_pieces p)
 
+-- of a number in an array
 abbrev pub number_text : List ℕ → List ℕ
 number_text n = flat_map piece_text (number_pieces n)
 
+-- of an argument
 abbrev pub arg_text : Arg → List ℕ
 arg_text a = flat_map piece_text (arg_pieces a)

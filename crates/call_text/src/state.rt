@@ -91,6 +91,98 @@ fn argument_step(
     }
 }
 
+// the word `CALL`
+#[tactic(auto, unfolding(crate::specs::Steps::state_step))]
+fn step_from_start(token: Token) -> Option<State>
+    ensures { result ≡ state_step State.Start token }
+{
+    match token {
+        Token::Word(word) => {
+            if is_keyword(Keyword::Call, &word) {
+                Some(State::Called)
+            } else {
+                None
+            }
+        }
+        _ => None,
+    }
+}
+
+// the word `SYSTEM`, behind the catalog and a dot
+#[tactic(auto, unfolding(crate::specs::Steps::state_step))]
+fn step_from_catalog(catalog: Text, token: Token) -> Option<State>
+    ensures { result ≡ state_step (State.CatalogDot catalog) token }
+{
+    match token {
+        Token::Word(word) => {
+            if is_keyword(Keyword::System, &word) {
+                Some(State::System(catalog))
+            } else {
+                None
+            }
+        }
+        _ => None,
+    }
+}
+
+// the procedure's name
+#[tactic(auto, unfolding(crate::specs::Steps::state_step))]
+fn step_from_system(catalog: Text, token: Token) -> Option<State>
+    ensures { result ≡ state_step (State.SystemDot catalog) token }
+{
+    match token {
+        Token::Word(name) | Token::Quoted(name) => Some(State::Procedure(catalog, name)),
+        _ => None,
+    }
+}
+
+// the opening bracket
+#[tactic(auto, unfolding(crate::specs::Steps::state_step))]
+fn step_from_procedure(alloc: Global, catalog: Text, procedure: Text, token: Token) -> Option<State>
+    ensures { result ≡ state_step (State.Procedure catalog procedure) token }
+{
+    match token {
+        Token::Open => Some(State::First(Call {
+            catalog,
+            procedure,
+            args: Items::empty(alloc),
+        })),
+        _ => None,
+    }
+}
+
+// the first token in the brackets
+#[tactic(auto, unfolding(crate::specs::Steps::state_step))]
+fn step_from_first(alloc: Global, call: Call, token: Token) -> Result<Option<State>, AllocError>
+    ensures { IfOk result (λ next. next ≡ state_step (State.First call) token) }
+{
+    match token {
+        Token::Close => Ok(Some(State::Closed(call))),
+        Token::Word(word) => Ok(Some(State::FirstWord(call, word))),
+        Token::Quoted(name) => Ok(Some(State::Named(call, name))),
+        token => argument_step(alloc, call, None, ValueState::Nothing, token),
+    }
+}
+
+// the token behind the first word in the brackets: an arrow, or a part of a value
+#[tactic(auto, unfolding(crate::specs::Steps::state_step))]
+fn step_from_first_word(
+    alloc: Global,
+    call: Call,
+    word: Text,
+    token: Token,
+) -> Result<Option<State>, AllocError>
+    ensures { IfOk result (λ next. next ≡ state_step (State.FirstWord call word) token) }
+{
+    match token {
+        Token::Arrow => Ok(Some(State::Value(call, Some(word), ValueState::Nothing))),
+        token => match begun_by_word(&word) {
+            Some(state) => argument_step(alloc, call, None, state, token),
+            None => Ok(None),
+        },
+    }
+}
+
 impl State {
     /// One token further. `None` where no statement goes on so.
     #[tactic(auto, unfolding(crate::specs::Steps::state_step))]
@@ -98,16 +190,7 @@ impl State {
         ensures { IfOk result (λ next. next ≡ state_step self token) }
     {
         match self {
-            State::Start => match token {
-                Token::Word(word) => {
-                    if is_keyword(Keyword::Call, &word) {
-                        Ok(Some(State::Called))
-                    } else {
-                        Ok(None)
-                    }
-                }
-                _ => Ok(None),
-            },
+            State::Start => Ok(step_from_start(token)),
             State::Called => match token {
                 Token::Word(name) | Token::Quoted(name) => Ok(Some(State::Catalog(name))),
                 _ => Ok(None),
@@ -116,47 +199,17 @@ impl State {
                 Token::Dot => Ok(Some(State::CatalogDot(catalog))),
                 _ => Ok(None),
             },
-            State::CatalogDot(catalog) => match token {
-                Token::Word(word) => {
-                    if is_keyword(Keyword::System, &word) {
-                        Ok(Some(State::System(catalog)))
-                    } else {
-                        Ok(None)
-                    }
-                }
-                _ => Ok(None),
-            },
+            State::CatalogDot(catalog) => Ok(step_from_catalog(catalog, token)),
             State::System(catalog) => match token {
                 Token::Dot => Ok(Some(State::SystemDot(catalog))),
                 _ => Ok(None),
             },
-            State::SystemDot(catalog) => match token {
-                Token::Word(name) | Token::Quoted(name) => {
-                    Ok(Some(State::Procedure(catalog, name)))
-                }
-                _ => Ok(None),
-            },
-            State::Procedure(catalog, procedure) => match token {
-                Token::Open => Ok(Some(State::First(Call {
-                    catalog,
-                    procedure,
-                    args: Items::empty(alloc),
-                }))),
-                _ => Ok(None),
-            },
-            State::First(call) => match token {
-                Token::Close => Ok(Some(State::Closed(call))),
-                Token::Word(word) => Ok(Some(State::FirstWord(call, word))),
-                Token::Quoted(name) => Ok(Some(State::Named(call, name))),
-                token => argument_step(alloc, call, None, ValueState::Nothing, token),
-            },
-            State::FirstWord(call, word) => match token {
-                Token::Arrow => Ok(Some(State::Value(call, Some(word), ValueState::Nothing))),
-                token => match begun_by_word(&word) {
-                    Some(state) => argument_step(alloc, call, None, state, token),
-                    None => Ok(None),
-                },
-            },
+            State::SystemDot(catalog) => Ok(step_from_system(catalog, token)),
+            State::Procedure(catalog, procedure) => {
+                Ok(step_from_procedure(alloc, catalog, procedure, token))
+            }
+            State::First(call) => step_from_first(alloc, call, token),
+            State::FirstWord(call, word) => step_from_first_word(alloc, call, word, token),
             State::NextName(call) => match token {
                 Token::Word(name) | Token::Quoted(name) => Ok(Some(State::Named(call, name))),
                 _ => Ok(None),

@@ -50,6 +50,81 @@ pub fn begun_by_word(word: &Text) -> Option<ValueState>
     }
 }
 
+// the first token of a value
+#[tactic(auto, unfolding(crate::specs::Steps::value_step))]
+fn step_from_nothing(token: Token) -> Option<ValueState>
+    ensures { result ≡ value_step ValueState.Nothing token }
+{
+    match token {
+        Token::Word(word) => begun_by_word(&word),
+        Token::Str(text) => Some(ValueState::Whole(ArgValue::Str(text))),
+        Token::Number(text) => Some(ValueState::Whole(ArgValue::Number(text))),
+        _ => None,
+    }
+}
+
+// the first token in a map's brackets
+#[tactic(auto, unfolding(crate::specs::Steps::value_step))]
+fn step_from_map(alloc: Global, token: Token) -> Option<ValueState>
+    ensures { result ≡ value_step ValueState.MapOpen token }
+{
+    match token {
+        Token::Str(key) => Some(ValueState::MapKey(Items::empty(alloc), key)),
+        Token::Close => Some(ValueState::Whole(ArgValue::Map(Items::empty(alloc)))),
+        _ => None,
+    }
+}
+
+// the value behind a key and its comma
+#[tactic(auto, unfolding(crate::specs::Steps::value_step))]
+fn step_from_key(
+    pairs: PairTexts,
+    key: Text,
+    token: Token,
+) -> Result<Option<ValueState>, AllocError>
+    ensures { IfOk result (λ next. next ≡ value_step (ValueState.MapKeyComma pairs key) token) }
+{
+    match token {
+        Token::Str(value) => {
+            let mut pairs = pairs;
+            pairs.push((key, value))?;
+            Ok(Some(ValueState::MapPairs(pairs)))
+        }
+        _ => Ok(None),
+    }
+}
+
+// the first token in an array's brackets
+#[tactic(auto, unfolding(crate::specs::Steps::value_step))]
+fn step_from_array(alloc: Global, token: Token) -> Result<Option<ValueState>, AllocError>
+    ensures { IfOk result (λ next. next ≡ value_step ValueState.ArrayOpen token) }
+{
+    match token {
+        Token::Number(number) => {
+            let mut numbers = Items::empty(alloc);
+            numbers.push(number)?;
+            Ok(Some(ValueState::ArrayNumbers(numbers)))
+        }
+        Token::Close => Ok(Some(ValueState::Whole(ArgValue::Array(Items::empty(alloc))))),
+        _ => Ok(None),
+    }
+}
+
+// the number behind a comma
+#[tactic(auto, unfolding(crate::specs::Steps::value_step))]
+fn step_from_numbers(numbers: TextList, token: Token) -> Result<Option<ValueState>, AllocError>
+    ensures { IfOk result (λ next. next ≡ value_step (ValueState.ArrayNumbersComma numbers) token) }
+{
+    match token {
+        Token::Number(number) => {
+            let mut numbers = numbers;
+            numbers.push(number)?;
+            Ok(Some(ValueState::ArrayNumbers(numbers)))
+        }
+        _ => Ok(None),
+    }
+}
+
 impl ValueState {
     /// One token further. `None` where no value goes on so.
     #[tactic(auto, unfolding(crate::specs::Steps::value_step))]
@@ -57,12 +132,7 @@ impl ValueState {
         ensures { IfOk result (λ next. next ≡ value_step self token) }
     {
         match self {
-            ValueState::Nothing => match token {
-                Token::Word(word) => Ok(begun_by_word(&word)),
-                Token::Str(text) => Ok(Some(ValueState::Whole(ArgValue::Str(text)))),
-                Token::Number(text) => Ok(Some(ValueState::Whole(ArgValue::Number(text)))),
-                _ => Ok(None),
-            },
+            ValueState::Nothing => Ok(step_from_nothing(token)),
             ValueState::TimestampWord => match token {
                 Token::Str(text) => Ok(Some(ValueState::Whole(ArgValue::Moment(text)))),
                 _ => Ok(None),
@@ -71,23 +141,12 @@ impl ValueState {
                 Token::Open => Ok(Some(ValueState::MapOpen)),
                 _ => Ok(None),
             },
-            ValueState::MapOpen => match token {
-                Token::Str(key) => Ok(Some(ValueState::MapKey(Items::empty(alloc), key))),
-                Token::Close => Ok(Some(ValueState::Whole(ArgValue::Map(Items::empty(alloc))))),
-                _ => Ok(None),
-            },
+            ValueState::MapOpen => Ok(step_from_map(alloc, token)),
             ValueState::MapKey(pairs, key) => match token {
                 Token::Comma => Ok(Some(ValueState::MapKeyComma(pairs, key))),
                 _ => Ok(None),
             },
-            ValueState::MapKeyComma(pairs, key) => match token {
-                Token::Str(value) => {
-                    let mut pairs = pairs;
-                    pairs.push((key, value))?;
-                    Ok(Some(ValueState::MapPairs(pairs)))
-                }
-                _ => Ok(None),
-            },
+            ValueState::MapKeyComma(pairs, key) => step_from_key(pairs, key, token),
             ValueState::MapPairs(pairs) => match token {
                 Token::Comma => Ok(Some(ValueState::MapPairsComma(pairs))),
                 Token::Close => Ok(Some(ValueState::Whole(ArgValue::Map(pairs)))),
@@ -101,28 +160,13 @@ impl ValueState {
                 Token::Open => Ok(Some(ValueState::ArrayOpen)),
                 _ => Ok(None),
             },
-            ValueState::ArrayOpen => match token {
-                Token::Number(number) => {
-                    let mut numbers = Items::empty(alloc);
-                    numbers.push(number)?;
-                    Ok(Some(ValueState::ArrayNumbers(numbers)))
-                }
-                Token::Close => Ok(Some(ValueState::Whole(ArgValue::Array(Items::empty(alloc))))),
-                _ => Ok(None),
-            },
+            ValueState::ArrayOpen => step_from_array(alloc, token),
             ValueState::ArrayNumbers(numbers) => match token {
                 Token::Comma => Ok(Some(ValueState::ArrayNumbersComma(numbers))),
                 Token::Close => Ok(Some(ValueState::Whole(ArgValue::Array(numbers)))),
                 _ => Ok(None),
             },
-            ValueState::ArrayNumbersComma(numbers) => match token {
-                Token::Number(number) => {
-                    let mut numbers = numbers;
-                    numbers.push(number)?;
-                    Ok(Some(ValueState::ArrayNumbers(numbers)))
-                }
-                _ => Ok(None),
-            },
+            ValueState::ArrayNumbersComma(numbers) => step_from_numbers(numbers, token),
             ValueState::Whole(_) => Ok(None),
         }
     }

@@ -10,9 +10,11 @@ begins_word b = is_ascii_alphabetic b || b == 95
 abbrev pub ends_word : ℕ → Bool
 ends_word b = not (is_ascii_alphanumeric b || b == 95)
 
+-- a letter, a digit or _
 abbrev pub continues_word : ℕ → Bool
 continues_word b = not (ends_word b)
 
+-- no decimal digit
 abbrev pub is_no_digit : ℕ → Bool
 is_no_digit b = not (is_ascii_digit b)
 
@@ -20,15 +22,21 @@ is_no_digit b = not (is_ascii_digit b)
 abbrev pub is_quote : ℕ → Bool
 is_quote b = b == 39 || b == 34
 
+-- `
 abbrev pub is_backquote : ℕ → Bool
 is_backquote b = b == 96
 
+-- \
 abbrev pub backslash : ℕ
 backslash = 92
 
 -- L or l
 abbrev pub is_long_mark : ℕ → Bool
 is_long_mark b = b == 76 || b == 108
+
+-- how many digits a number has at most
+abbrev pub most_digits : ℕ
+most_digits = 39
 
 -- the bytes begin with one that passes the test
 abbrev pub first_is : (ℕ → Bool) → List ℕ → Bool

@@ -6,7 +6,7 @@ use Rattle.std.specs.Option.{option_map}
 use Rattle.std.specs.Char.{is_ascii_digit}
 use Rattle.call_tokens.specs.declared.token.Token.{Token}
 use Rattle.call_tokens.specs.declared.token.Token.TheVariants.{Word, Quoted, Str, Number, Dot, Comma, Open, Close, Arrow, Semicolon}
-use Rattle.call_tokens.specs.Characters.{begins_word, ends_word, is_no_digit, is_quote, is_backquote, backslash, is_long_mark, first_is, unescaped}
+use Rattle.call_tokens.specs.Characters.{begins_word, ends_word, is_no_digit, is_quote, is_backquote, backslash, is_long_mark, most_digits, first_is, unescaped}
 
 -- what stands from the first byte that passes the test
 abbrev pub from_first : (ℕ → Bool) → List ℕ → List ℕ
@@ -31,18 +31,21 @@ quoted_of bytes =
     let len = position_or_len is_backquote bytes in
     if nat_lt 0 len && nat_lt len (length bytes) then Some (take len bytes, drop (len + 1) bytes) else None
 
+-- how long a minus sign in front is
 abbrev pub sign_len : List ℕ → ℕ
 sign_len bytes = if first_is (λ b. b == 45) bytes then 1 else 0
 
+-- how long an L or l in front is
 abbrev pub long_mark_len : List ℕ → ℕ
 long_mark_len bytes = if first_is is_long_mark bytes then 1 else 0
 
 -- how long the number in front is, and 0 where there is none
 unfoldable pub number_len : List ℕ → ℕ
 number_len bytes =
-    let digits = min (position_or_len is_no_digit (drop (sign_len bytes) bytes)) 39 in
+    let digits = min (position_or_len is_no_digit (drop (sign_len bytes) bytes)) most_digits in
     if digits == 0 then 0 else sign_len bytes + digits + long_mark_len (drop (sign_len bytes + digits) bytes)
 
+-- the number in front, and what stands behind it
 abbrev pub number_of : List ℕ → Option (Token × List ℕ)
 number_of bytes = if number_len bytes == 0 then None else Some (Number (take (number_len bytes) bytes), drop (number_len bytes) bytes)
 

@@ -3,7 +3,7 @@ use Rattle.std.specs.Prelude.{◌≡◌, ◌≢◌, ◌⊎◌, ℕ, ◌<◌, ◌
 use Rattle.std.specs.List.{AllByRecursion, list_all}
 use Rattle.call_tokens.specs.declared.token.Token.{Token}
 use Rattle.call_tokens.specs.declared.token.Token.TheVariants as tokens
-use Rattle.call_tokens.specs.Characters.{begins_word, continues_word, ends_word, is_quote, is_no_digit, is_backquote, backslash, first_is, unescaped}
+use Rattle.call_tokens.specs.Characters.{begins_word, continues_word, ends_word, is_quote, is_no_digit, is_backquote, backslash, most_digits, first_is, unescaped}
 
 -- an identifier without backquotes: a letter or _, then letters, digits and _
 pub record IsWord (w : List ℕ) : Type 0 where
@@ -36,7 +36,7 @@ pub record IsString (text content : List ℕ) : Type 0 where
   pub is_content : IsContent quote body content
   pub is : text ≡ quote ∷ body ++ quote ∷ []
 
--- a number: an optional -, 1 to 39 digits, an optional L or l
+-- a number: an optional -, one digit or more up to a limit, an optional L or l
 pub record IsNumber (number : List ℕ) : Type 0 where
   pub sign : List ℕ
   pub digits : List ℕ
@@ -44,7 +44,7 @@ pub record IsNumber (number : List ℕ) : Type 0 where
   pub is_sign : (sign ≡ []) ⊎ (sign ≡ codes "-")
   pub are_digits : AllByRecursion (λ b. is_no_digit b ≡ false) digits
   pub some : 0 < length digits
-  pub few : length digits ≤ 39
+  pub few : length digits ≤ most_digits
   pub is_mark : (mark ≡ []) ⊎ ((mark ≡ codes "L") ⊎ (mark ≡ codes "l"))
   pub is : number ≡ sign ++ (digits ++ mark)
 

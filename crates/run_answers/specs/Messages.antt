@@ -66,6 +66,7 @@ pieces_of OutFault = codes "output failed" ∷ []
 pieces_of OutOfMemory = codes "out of memory" ∷ []
 pieces_of (NameTaken place) = codes "name taken " ∷ shown place ∷ []
 
+-- the message of a status; none where the statements ran to their end
 abbrev pub message_of : Status → List ℕ
 message_of status = concat (pieces_of status)
 

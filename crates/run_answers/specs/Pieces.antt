@@ -5,6 +5,7 @@ use Rattle.run_answers.specs.Escapes.{escaped}
 use Rattle.run_answers.specs.declared.message.Piece.{Piece}
 use Rattle.run_answers.specs.declared.message.Piece.TheVariants.{Nothing, Words, Natural, Integer, Content}
 
+-- the text of a piece
 abbrev pub piece_text : Piece → List ℕ
 piece_text Nothing = []
 piece_text (Words words) = words.now

@@ -6,15 +6,16 @@ use Rattle.run_answers.specs.Escapes.{escaped}
 
 -- a tab before each cell but the first
 abbrev pub behind_tab : List ℕ → List ℕ
-behind_tab cell = 9 ∷ escaped cell
+behind_tab cell = codes "\t" ++ escaped cell
 
+-- the cells with one tab between two
 unfoldable pub cells_text : List (List ℕ) → List ℕ
 cells_text [] = []
 cells_text (cell ∷ cells) = escaped cell ++ flat_map behind_tab cells
 
 -- the cells with one tab between two, and a line feed
 unfoldable pub line : List (List ℕ) → List ℕ
-line cells = cells_text cells ++ 10 ∷ []
+line cells = cells_text cells ++ codes "\n"
 
 -- the line of the column names, and a line for each row
 abbrev pub report_text : List (List ℕ) → List (List (List ℕ)) → List ℕ

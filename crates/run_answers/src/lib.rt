@@ -13,8 +13,6 @@ mod message;
 mod put;
 mod reports;
 mod status;
-#[cfg(test)]
-mod tests;
 
 pub use answers::{status_of_error, status_of_open, status_of_read, status_of_refusal};
 pub use put::put_message;

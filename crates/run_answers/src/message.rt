@@ -1,7 +1,7 @@
 //! The text of each status.
-ghost use Rattle.std.specs.Prelude.{◌≡◌, ◌+◌};
+ghost use Rattle.std.specs.Prelude.{◌≡◌, ◌+◌, [], ◌∷◌, codes};
 ghost use Rattle.std.specs.Fmt.{decimal, signed_decimal};
-ghost use Rattle.std.specs.List.{flat_map};
+ghost use Rattle.std.specs.List.{concat, flat_map};
 ghost use Rattle.run_answers.specs.Escapes.{escaped};
 ghost use Rattle.run_answers.specs.Messages.{shown, or_none, name_of, message_of};
 ghost use Rattle.run_answers.specs.Pieces.{piece_text};
@@ -85,22 +85,52 @@ fn name_of(what: What) -> &'static str
     }
 }
 
+// words alone
+fn words<'a>(words: &'static str) -> Pieces<'a>
+    ensures { flat_map piece_text result ≡ words.now }
+{
+    [Words(words), Nothing, Nothing, Nothing]
+}
+
+// words, and what they speak of
+fn named<'a>(words: &'static str, piece: Piece<'a>) -> Pieces<'a>
+    ensures { flat_map piece_text result ≡ concat (words.now ∷ piece_text piece.entry ∷ []) }
+{
+    [Words(words), piece, Nothing, Nothing]
+}
+
+// a relation between two pieces, with words before each
+fn related<'a>(
+    words: &'static str,
+    first: Piece<'a>,
+    relation: &'static str,
+    second: Piece<'a>,
+) -> Pieces<'a>
+    ensures { flat_map piece_text result ≡ concat (words.now ∷ piece_text first.entry ∷ relation.now ∷ piece_text second.entry ∷ []) }
+{
+    [Words(words), first, Words(relation), second]
+}
+
+// what is wrong with the statement that is the word with this number, counted from 0
+fn statement<'a>(word: usize, fault: &'static str, piece: Piece<'a>) -> Pieces<'a>
+    ensures { flat_map piece_text result ≡ concat (codes "statement " ∷ decimal (word + 1) ∷ fault.now ∷ piece_text piece.entry ∷ []) }
+{
+    related("statement ", counted(word), fault, piece)
+}
+
+// how a snapshot stands to something else
+fn snapshot<'a>(id: &i64, relation: &'static str, piece: Piece<'a>) -> Pieces<'a>
+    ensures { flat_map piece_text result ≡ concat (codes "snapshot " ∷ signed_decimal id.now ∷ relation.now ∷ piece_text piece.entry ∷ []) }
+{
+    related("snapshot ", signed(id), relation, piece)
+}
+
 fn damaged<'a>(place: &'a Place, at: &'a Where) -> Pieces<'a>
     ensures { flat_map piece_text result ≡ message_of (Status.Damaged place.now at.now) }
 {
     match at {
-        Where::Byte(at) => [
-            Words("damaged "),
-            shown(place),
-            Words(" at byte "),
-            number(*at),
-        ],
-        Where::Path(path) => [
-            Words("damaged "),
-            shown(place),
-            Words(" at field "),
-            written(path),
-        ],
+        Where::Byte(at) => related("damaged ", shown(place), " at byte ", number(*at)),
+        Where::Path(path) => related("damaged ", shown(place), " at field ", written(path)),
     }
 }
 
@@ -108,31 +138,38 @@ fn conflict<'a>(place: &'a Place, other: &'a Other) -> Pieces<'a>
     ensures { flat_map piece_text result ≡ message_of (Status.Conflict place.now other.now) }
 {
     match other {
-        Other::Gone => [
-            Words("conflict on "),
-            shown(place),
-            Words(": gone"),
-            Nothing,
-        ],
-        Other::Schema => [
-            Words("conflict on "),
-            shown(place),
-            Words(": schema"),
-            Nothing,
-        ],
-        Other::Manifest => [
-            Words("conflict on "),
-            shown(place),
-            Words(": manifest gone"),
-            Nothing,
-        ],
-        Other::Delete(by) => [
-            Words("conflict on "),
-            shown(place),
-            Words(": delete "),
-            shown(by),
-        ],
+        Other::Gone => related("conflict on ", shown(place), ": gone", Nothing),
+        Other::Schema => related("conflict on ", shown(place), ": schema", Nothing),
+        Other::Manifest => related("conflict on ", shown(place), ": manifest gone", Nothing),
+        Other::Delete(by) => related("conflict on ", shown(place), ": delete ", shown(by)),
     }
+}
+
+fn too_recent<'a>(older_than: u64, limit: u64) -> Pieces<'a>
+    ensures { flat_map piece_text result ≡ message_of (Status.TooRecent older_than limit) }
+{
+    let limit = number(limit);
+    related("older_than ", number(older_than), " is after ", limit)
+}
+
+// a table that says another location than where it stands
+fn elsewhere<'a>(table: &'a Place, location: &'a Text) -> Pieces<'a>
+    ensures { flat_map piece_text result ≡ message_of (Status.LocationDiffers table.now location.now) }
+{
+    let location = written(location);
+    related("table at ", shown(table), " says location ", location)
+}
+
+// the commit of a version that may be there
+fn unknown<'a>(version: u64) -> Pieces<'a>
+    ensures { flat_map piece_text result ≡ message_of (Status.CommitUnknown version) }
+{
+    related(
+        "commit of version ",
+        number(version),
+        " is unknown",
+        Nothing,
+    )
 }
 
 /// The message of a status in pieces. A status that is done has none.
@@ -142,122 +179,34 @@ pub(crate) fn pieces_of(status: &Status) -> Pieces<'_>
     match status {
         Status::Done => [Nothing, Nothing, Nothing, Nothing],
         Status::BadStatement { word, at } => {
-            [
-                Words("statement "),
-                counted(*word),
-                Words(": syntax at byte "),
-                number(*at as u64),
-            ]
+            statement(*word, ": syntax at byte ", number(*at as u64))
         }
-        Status::BadArgument { word, name } => {
-            [
-                Words("statement "),
-                counted(*word),
-                Words(": bad argument "),
-                written(name),
-            ]
-        }
-        Status::UnknownSnapshot { id } => [
-            Words("unknown snapshot "),
-            signed(id),
-            Nothing,
-            Nothing,
-        ],
-        Status::UnknownRef { name } => [Words("unknown ref "), written(name), Nothing, Nothing],
-        Status::NotAncestor { id, of } => {
-            [
-                Words("snapshot "),
-                signed(id),
-                Words(" is not an ancestor of "),
-                id_or_none(*of),
-            ]
-        }
+        Status::BadArgument { word, name } => statement(*word, ": bad argument ", written(name)),
+        Status::UnknownSnapshot { id } => named("unknown snapshot ", signed(id)),
+        Status::UnknownRef { name } => named("unknown ref ", written(name)),
+        Status::NotAncestor { id, of } => snapshot(id, " is not an ancestor of ", id_or_none(*of)),
         Status::StillReferenced { id, name } => {
-            [
-                Words("snapshot "),
-                signed(id),
-                Words(" is still referenced by "),
-                written(name),
-            ]
+            snapshot(id, " is still referenced by ", written(name))
         }
-        Status::GcDisabled => [Words("gc.enabled is false"), Nothing, Nothing, Nothing],
-        Status::TooRecent { older_than, limit } => {
-            [
-                Words("older_than "),
-                number(*older_than),
-                Words(" is after "),
-                number(*limit),
-            ]
-        }
-        Status::NoTable { place } => [Words("no table at "), shown(place), Nothing, Nothing],
-        Status::LocationDiffers { table, location } => {
-            [
-                Words("table at "),
-                shown(table),
-                Words(" says location "),
-                written(location),
-            ]
-        }
-        Status::Missing { place } => [Words("missing "), shown(place), Nothing, Nothing],
+        Status::GcDisabled => words("gc.enabled is false"),
+        Status::TooRecent { older_than, limit } => too_recent(*older_than, *limit),
+        Status::NoTable { place } => named("no table at ", shown(place)),
+        Status::LocationDiffers { table, location } => elsewhere(table, location),
+        Status::Missing { place } => named("missing ", shown(place)),
         Status::Damaged { place, at } => damaged(place, at),
         Status::Unsupported { place, what } => {
-            [
-                Words("unsupported "),
-                Words(name_of(*what)),
-                Words(" in "),
-                shown(place),
-            ]
+            related("unsupported ", Words(name_of(*what)), " in ", shown(place))
         }
-        Status::OutsidePrefix { path } => {
-            [
-                Words("outside the source prefix: "),
-                written(path),
-                Nothing,
-                Nothing,
-            ]
-        }
-        Status::UnreadableDelete { place } => {
-            [
-                Words("unreadable delete file "),
-                shown(place),
-                Nothing,
-                Nothing,
-            ]
-        }
-        Status::SamePrefix => {
-            [
-                Words("source and target prefix are the same"),
-                Nothing,
-                Nothing,
-                Nothing,
-            ]
-        }
-        Status::UnknownVersion { name } => [
-            Words("unknown version "),
-            written(name),
-            Nothing,
-            Nothing,
-        ],
+        Status::OutsidePrefix { path } => named("outside the source prefix: ", written(path)),
+        Status::UnreadableDelete { place } => named("unreadable delete file ", shown(place)),
+        Status::SamePrefix => words("source and target prefix are the same"),
+        Status::UnknownVersion { name } => named("unknown version ", written(name)),
         Status::Conflict { place, other } => conflict(place, other),
-        Status::Contended { version } => {
-            [
-                Words("lost the race up to version "),
-                number(*version),
-                Nothing,
-                Nothing,
-            ]
-        }
-        Status::StoreFault { place } => [Words("store failed at "), shown(place), Nothing, Nothing],
-        Status::CommitUnknown { version } => {
-            [
-                Words("commit of version "),
-                number(*version),
-                Words(" is unknown"),
-                Nothing,
-            ]
-        }
-        Status::OutFault => [Words("output failed"), Nothing, Nothing, Nothing],
-        Status::OutOfMemory => [Words("out of memory"), Nothing, Nothing, Nothing],
-        Status::NameTaken { place } => [Words("name taken "), shown(place), Nothing, Nothing],
+        Status::Contended { version } => named("lost the race up to version ", number(*version)),
+        Status::StoreFault { place } => named("store failed at ", shown(place)),
+        Status::CommitUnknown { version } => unknown(*version),
+        Status::OutFault => words("output failed"),
+        Status::OutOfMemory => words("out of memory"),
+        Status::NameTaken { place } => named("name taken ", shown(place)),
     }
 }

@@ -3,6 +3,7 @@ use Rattle.std.specs.Prelude.{ℕ}
 use Rattle.upkeep.specs.declared.Unstarted.{Unstarted}
 use Rattle.upkeep.specs.declared.Unstarted.TheVariants.{Output, Memory, NotText, Random, Store}
 
+-- the exit status where nothing was run
 abbrev pub number_of : Unstarted → ℕ
 number_of Store = 5
 number_of Output = 7

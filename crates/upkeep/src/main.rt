@@ -8,12 +8,12 @@ ghost use Rattle.std.specs.Prelude.{◌≡◌};
 ghost use Rattle.upkeep.specs.Numbers.{number_of};
 
 use call_syntax::{ArgErr, SyntaxErr, read_statement, typed};
-use store_directory::{DirStore, MachineClock, RandomIds, StreamSink};
 use ice_store::{Alone, Place, Sink, StoreErr, Text};
 use std::alloc::{AllocError, Global};
 use std::env;
 use std::io::{self, ErrorKind};
 use std::process::ExitCode;
+use store_directory::{DirStore, MachineClock, RandomIds, StreamSink};
 use upkeep_top::run;
 
 #[cfg(test)]

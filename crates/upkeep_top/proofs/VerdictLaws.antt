@@ -162,6 +162,13 @@ free_is status (inr (inl f)) = ap is_free f.1
 free_is status (inr (inr (inl f))) = ap is_free f
 free_is status (inr (inr (inr f))) = ap is_free f
 
+pub not_free : (status : Status) → (IsFree status → ⊥) → is_free status ≡ false
+not_free (statuses.StoreFault place) plain = absurd (plain (inl (place, refl)))
+not_free (statuses.CommitUnknown v) plain = absurd (plain (inr (inl (v, refl))))
+not_free statuses.OutFault plain = absurd (plain (inr (inr (inl refl))))
+not_free statuses.OutOfMemory plain = absurd (plain (inr (inr (inr refl))))
+not_free status plain = refl
+
 -- a fault of the store, whose count rose
 abbrev pub IsStoreFault : Status → Type 0
 IsStoreFault status = ((place : Parts) × (status ≡ statuses.StoreFault place)) ⊎ ((v : ℕ) × (status ≡ statuses.CommitUnknown v))

@@ -25,6 +25,7 @@ task_of word (commands.FastForward table branch to) = Ok (record { word = word; 
 task_of word (commands.Ancestors table id) = Ok (record { word = word; table = table; work = Listing id })
 task_of word command = Err (procedure_name (procedure_of command))
 
+-- the statement of a command, or the name for which the argument table refuses
 abbrev pub task_by : ℕ → Result Command (List ℕ) → Result Task (List ℕ)
 task_by word (Ok command) = task_of word command
 task_by word (Err name) = Err name

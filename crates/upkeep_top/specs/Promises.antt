@@ -47,6 +47,7 @@ pub record Publishes (number : Parts → ℕ) (old new : Past) (versions : List 
   pub is : new ≡ later old events
   pub versions_are : versions ≡ versions_of number (ours events)
 
+-- one version at most
 abbrev pub NoneOrOne : List ℕ → Type 0
 NoneOrOne versions = (versions ≡ []) ⊎ ((v : ℕ) × (versions ≡ v ∷ []))
 
@@ -78,11 +79,13 @@ DoneSteps (Ok (Same v)) steps = steps ≡ []
 DoneSteps (Ok (Published v)) steps = (draft : Parts) × (target : Parts) × (bytes : List ℕ) × (steps ≡ draft_plan draft bytes ++ (Rename draft target ∷ SyncNames ∷ []))
 DoneSteps (Err e) steps = Unit {0}
 
+-- the renames of a statement, by its end
 abbrev pub HasSteps : Parts → End → Past → Past → Type 0
 HasSteps table end old new = (versions : List ℕ) × Publishes (number_in table) old new versions × VersionsBy end versions
 
 -- Successors.
 
+-- the version is a successor by this work; a listing publishes none
 abbrev pub SucceedsBy : Work → Parts → ℕ → ℕ → Past → Past → Type 0
 SucceedsBy (Move goal) table now v old new = Succession (Moves goal now) table now v old new
 SucceedsBy (Listing given) table now v old new = ⊥

@@ -11,15 +11,19 @@ use Rattle.run_refs.specs.declared.goal.Goal.TheVariants.{Rollback, SetCurrent, 
 use Rattle.upkeep_top.specs.declared.task.Work.{Work}
 use Rattle.upkeep_top.specs.declared.task.Work.TheVariants.{Move, List as Listing}
 
+-- the columns of a report of the current snapshot
 abbrev pub snapshot_columns : List (List ℕ)
 snapshot_columns = codes "previous_snapshot_id" ∷ codes "current_snapshot_id" ∷ []
 
+-- the columns of a report of a branch
 abbrev pub branch_columns : List (List ℕ)
 branch_columns = codes "branch_updated" ∷ codes "previous_ref" ∷ codes "updated_ref" ∷ []
 
+-- the columns of a report of ancestors
 abbrev pub ancestor_columns : List (List ℕ)
 ancestor_columns = codes "snapshot_id" ∷ codes "timestamp" ∷ []
 
+-- where a ref was, and where it is
 abbrev pub ref_row : Option ℤ → ℤ → List (List ℕ)
 ref_row previous id = id_cell previous ∷ signed_decimal id ∷ []
 
@@ -30,6 +34,7 @@ move_report (SetCurrent given) previous id = report_text snapshot_columns (ref_r
 move_report (SetCurrentTo name) previous id = report_text snapshot_columns (ref_row previous id ∷ [])
 move_report (FastForward branch to) previous id = report_text branch_columns ((branch ∷ ref_row previous id) ∷ [])
 
+-- a snapshot and its moment
 abbrev pub ancestor_row : Ancestor → List (List ℕ)
 ancestor_row a = signed_decimal a.id ∷ decimal a.ms ∷ []
 

@@ -38,6 +38,10 @@ pub record Ended (tasks : List Task) (status : Status) (p q : Point) : Type 0 wh
   pub ends : Ends task status from q
   pub last : status ≡ Done → after ≡ []
 
+-- the same, where there are statements
+abbrev pub EndedIfAny : List Task → Status → Point → Point → Type 0
+EndedIfAny tasks status p q = (first : Task) (more : List Task) → tasks ≡ first ∷ more → Ended tasks status p q
+
 -- the words are refused, or there was no memory to read them
 abbrev pub IsRefusal : List (List ℕ) → Status → Type 0
 IsRefusal words status = RefusesWords words status ⊎ (status ≡ OutOfMemory)
@@ -53,6 +57,7 @@ pub record RanAsked (words : List (List ℕ)) (status : Status) (p q : Point) : 
 abbrev pub RunsBy : List (List ℕ) → Status → Point → Point → Type 0
 RunsBy words status p q = (IsRefusal words status × (q ≡ p)) ⊎ RanAsked words status p q
 
+-- a run of words, with its status, from one point to another
 pub record Runs (words : List (List ℕ)) (status : Status) (p q : Point) : Type 0 where
   pub how : RunsBy words status p q
 
@@ -65,6 +70,7 @@ pub record Row (status asked : Status) (task : Task) (now : ℕ) (Drawn : ℕ �
   pub only : status ≡ asked → Verdict task now Drawn (replay past).files asked
   pub exactly : IsOneDrawn Drawn → Verdict task now Drawn (replay past).files asked → (status ≡ asked) ⊎ IsFree status
 
+-- the row of the last statement that ran, in the run between these histories
 pub record LastRow (words : List (List ℕ)) (status asked : Status) (past new : Option Past) : Type 0 where
   pub p : Point
   pub q : Point
@@ -133,6 +139,7 @@ EachSucceeds words (v ∷ versions) old new = PublishedBy words v old new × Eac
 abbrev pub TellsBy : Status → List ℕ → List ℕ → Type 0
 TellsBy status committed versions = (versions ≡ committed) ⊎ (((v : ℕ) × (status ≡ CommitUnknown v) × (versions ≡ committed ++ v ∷ [])) ⊎ ((v : ℕ) × (status ≡ OutOfMemory) × (versions ≡ committed ++ v ∷ [])))
 
+-- which versions were told, and which may be there besides
 abbrev pub TellsVersions : List (List ℕ) → Status → List ℕ → Past → Past → Type 0
 TellsVersions words status committed old new = ((new ≡ old) × (committed ≡ [])) ⊎ ((table : Parts) × AskOf words table × ((versions : List ℕ) × Publishes (number_in table) old new versions × TellsBy status committed versions))
 

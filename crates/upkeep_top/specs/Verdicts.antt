@@ -70,6 +70,7 @@ ListVerdict given table files (Err (Attempt (attempts.Read Memory))) = Unit {0}
 ListVerdict given table files (Err (Contended v)) = ⊥
 ListVerdict given table files (Err (CommitUnknown v)) = ⊥
 
+-- the verdict of the work on a table with these files
 abbrev pub WorkVerdict : Work → ℕ → (ℕ → Type 0) → Parts → List Held → End → Type 0
 WorkVerdict (Move goal) now Drawn table files end = CommitVerdict (Moves goal now) (IsThere goal) (RefusesMove goal) Drawn table now files end
 WorkVerdict (Listing given) now Drawn table files end = ListVerdict given table files end

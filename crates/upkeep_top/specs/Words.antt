@@ -23,6 +23,7 @@ abbrev pub AskFrom : ℕ → List (List ℕ) → List Task → Type 0
 AskFrom number [] tasks = tasks ≡ []
 AskFrom number (word ∷ words) tasks = (task : Task) × (more : List Task) × AsksFor word number task × AskFrom (number + 1) words more × (tasks ≡ task ∷ more)
 
+-- all statements are of this table
 abbrev pub AreOf : Parts → List Task → Type 0
 AreOf table [] = Unit {0}
 AreOf table (task ∷ tasks) = (task.table ≡ table) × AreOf table tasks
@@ -73,6 +74,7 @@ pub record IsOther (table : Parts) (tasks : List Task) (at : ℕ) : Type 0 where
   pub differs : other.table ≡ table → ⊥
   pub at_is : at ≡ length before
 
+-- where the first statement of another table stands, if there is one
 abbrev pub OtherAt : Parts → List Task → Option ℕ → Type 0
 OtherAt table tasks None = AreOf table tasks
 OtherAt table tasks (Some at) = IsOther table tasks at
@@ -93,5 +95,6 @@ pub record HasOther (tasks : List Task) (status : Status) : Type 0 where
   pub other : IsOther first.table tasks at
   pub status_is : status ≡ BadArgument at (codes "table")
 
+-- why statements of tables are refused, or memory lacked
 abbrev pub TablesRefuse : List Task → Status → Type 0
 TablesRefuse tasks status = ((tasks ≡ []) × (status ≡ BadStatement 0 0)) ⊎ (HasOther tasks status ⊎ (status ≡ OutOfMemory))

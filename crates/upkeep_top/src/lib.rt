@@ -12,8 +12,6 @@
 mod report;
 mod statement;
 mod task;
-#[cfg(test)]
-mod tests;
 mod top_call;
 mod words;
 

@@ -4,8 +4,8 @@ ghost use Rattle.upkeep_top.specs.Reports.{ancestor_row, branch_columns, move_re
 ghost use Rattle.run_answers.specs.Reports.{report_text};
 
 use ice_store::{Items, Text, TextList};
-use run_refs::{Ancestor, Goal, RefMove};
 use run_answers::{CellRows, columns, id_cell, number_cell, optional_id_cell, report};
+use run_refs::{Ancestor, Goal, RefMove};
 use std::alloc::{AllocError, Global};
 
 fn ref_row(alloc: Global, previous: Option<i64>, id: i64) -> Result<Vec<Text>, AllocError>

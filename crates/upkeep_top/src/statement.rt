@@ -4,7 +4,7 @@ ghost use Rattle.ice_store.specs.Calls.{Rose};
 ghost use Rattle.ice_store.specs.Others.{WhereTold};
 ghost use Rattle.serde_json.specs.View.{view};
 ghost use Rattle.commit_publish.specs.Stages.{InState};
-ghost use Rattle.upkeep_top.specs.Points.{point};
+ghost use Rattle.upkeep_top.specs.Points.{Between, noted};
 ghost use Rattle.upkeep_top.specs.Reports.{list_report};
 ghost use Rattle.upkeep_top.specs.Statements.{Ends, IsEnd, Reports, IsListedBy};
 ghost use Rattle.upkeep_top.specs.declared.task.Task.{Task as TheTask};
@@ -13,8 +13,8 @@ use crate::report::{report_ancestors, report_move};
 use crate::task::{Task, Work};
 use commit_protocol::{Log, commit, open_table};
 use ice_store::{Alone, Clock, Ids, Place, Sink, Store, Text};
-use run_refs::{Goal, RefMove, list_ancestors};
 use run_answers::{Status, status_of_error, status_of_open};
+use run_refs::{Goal, RefMove, list_ancestors};
 use std::alloc::{AllocError, Global};
 use table_metadata::{EditErr, Meta};
 
@@ -61,23 +61,14 @@ fn run_move<S: Store<Alone>, C: Clock, I: Ids, O: Sink>(
 ) -> Status
     requires work { task.now.work ≡ Work.Move goal.now }
     requires start { WhereTold (S.past store.old) (InState (λ d. d.pending ≡ [])) }
-    ensures { Ends task.now result (point (S.past store.old) (S.faults store.old) (S.halted store.old) (C.given clock.old) (I.given ids.old) (O.contents out.old) (O.faults out.old) log.old.committed.items log.old.left.items)
-        (point (S.past store.new) (S.faults store.new) (S.halted store.new) (C.given clock.new) (I.given ids.new) (O.contents out.new) (O.faults out.new) log.new.committed.items log.new.left.items) }
+    ensures { Between S.past S.faults S.halted C.given I.given O.contents O.faults store.old store.new clock.old clock.new ids.old ids.new out.old out.new (noted log.old) (noted log.new) (Ends task.now result) }
 {
     let now = clock.now_ms();
     let Ok(copied) = copy_goal(goal) else {
         return Status::OutOfMemory;
     };
     let mut change = RefMove::new(copied, now);
-    match commit::<Alone, S, I, RefMove>(
-        alloc,
-        store,
-        ids,
-        now,
-        &task.table,
-        &mut change,
-        log,
-    ) {
+    match commit::<Alone, S, I, RefMove>(alloc, store, ids, now, &task.table, &mut change, log) {
         Ok(_) => put_report(out, report_move(alloc, goal, &change)),
         Err(e) => status_of_error(task.word, e),
     }
@@ -109,8 +100,7 @@ fn run_list<S: Store<Alone>, C: Clock, I: Ids, O: Sink>(
 ) -> Status
     requires work { task.now.work ≡ Work.List given }
     requires start { WhereTold (S.past store.old) (InState (λ d. d.pending ≡ [])) }
-    ensures { Ends task.now result (point (S.past store.old) (S.faults store.old) (S.halted store.old) (C.given clock.old) (I.given ids.now) (O.contents out.old) (O.faults out.old) log.now.committed.items log.now.left.items)
-        (point (S.past store.new) (S.faults store.new) (S.halted store.new) (C.given clock.new) (I.given ids.now) (O.contents out.new) (O.faults out.new) log.now.committed.items log.now.left.items) }
+    ensures { Between S.past S.faults S.halted C.given I.given O.contents O.faults store.old store.new clock.old clock.new ids.now ids.now out.old out.new (noted log.now) (noted log.now) (Ends task.now result) }
 {
     let _ = clock.now_ms();
     match open_table::<Alone, S>(alloc, store, &task.table) {
@@ -130,8 +120,7 @@ pub(crate) fn run_task<S: Store<Alone>, C: Clock, I: Ids, O: Sink>(
     log: &mut Log,
 ) -> Status
     requires start { WhereTold (S.past store.old) (InState (λ d. d.pending ≡ [])) }
-    ensures { Ends task.now result (point (S.past store.old) (S.faults store.old) (S.halted store.old) (C.given clock.old) (I.given ids.old) (O.contents out.old) (O.faults out.old) log.old.committed.items log.old.left.items)
-        (point (S.past store.new) (S.faults store.new) (S.halted store.new) (C.given clock.new) (I.given ids.new) (O.contents out.new) (O.faults out.new) log.new.committed.items log.new.left.items) }
+    ensures { Between S.past S.faults S.halted C.given I.given O.contents O.faults store.old store.new clock.old clock.new ids.old ids.new out.old out.new (noted log.old) (noted log.new) (Ends task.now result) }
 {
     match &task.work {
         Work::Move(goal) => run_move::<S, C, I, O>(alloc, task, goal, store, clock, ids, out, log),

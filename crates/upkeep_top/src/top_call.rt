@@ -1,20 +1,18 @@
 //! The top call `run`: statements over a store, a clock, a source of identifiers and two sinks.
-ghost use Rattle.std.specs.Prelude.{◌≡◌, ◌⊎◌, ◌∷◌, [], ℕ, ℤ, List, Option};
+ghost use Rattle.std.specs.Prelude.{◌≡◌, ◌⊎◌, [], ℕ};
 ghost use Rattle.ice_store.specs.Calls.{Rose};
 ghost use Rattle.ice_store.specs.Others.{WhereTold};
 ghost use Rattle.ice_store.specs.Places.{Parts};
 ghost use Rattle.ice_store.specs.Since.{Since};
-ghost use Rattle.ice_store.specs.declared.faults.What.{What as TheWhat};
-ghost use Rattle.ice_store.specs.declared.faults.Where.{Where as TheWhere};
 ghost use Rattle.commit_publish.specs.Stages.{InState};
 ghost use Rattle.run_answers.specs.Messages.{message_line};
 ghost use Rattle.run_answers.specs.Puts.{TakesPrefix, TakesAll};
 ghost use Rattle.run_answers.specs.declared.status.Status.{Status as TheStatus};
-ghost use Rattle.upkeep_top.specs.Points.{point};
-ghost use Rattle.upkeep_top.specs.Runs.{Ended, Runs, TellsBadArgument, ComesExactly, IsComplete, IsSafeRun, KeepsPrefix, KeepsFiles, EachSucceeds, TellsVersions, LeavesPlaces, TellsFaultAt, TellsUnknown, MayLeave};
+ghost use Rattle.upkeep_top.specs.Points.{Between, noted, no_notes, run_notes};
+ghost use Rattle.upkeep_top.specs.Runs.{EndedIfAny, Runs, TellsBadArgument, ComesExactly, IsComplete, IsSafeRun, KeepsPrefix, KeepsFiles, EachSucceeds, TellsVersions, LeavesPlaces, TellsFaultAt, TellsUnknown, MayLeave};
 ghost use Rattle.upkeep_top.specs.Statements.{Halts};
+ghost use Rattle.upkeep_top.specs.Verdicts.{IsFree};
 ghost use Rattle.upkeep_top.specs.Words.{RefusesWords};
-ghost use Rattle.upkeep_top.specs.declared.task.Task.{Task as TheTask};
 
 use crate::statement::run_task;
 use crate::task::Task;
@@ -35,8 +33,7 @@ fn run_tasks<S: Store<Alone>, C: Clock, I: Ids, O: Sink>(
     log: &mut Log,
 ) -> Status
     requires start { WhereTold (S.past store.old) (InState (λ d. d.pending ≡ [])) }
-    ensures { (first : TheTask) (more : List TheTask) → tasks.now ≡ first ∷ more → Ended tasks.now result (point (S.past store.old) (S.faults store.old) (S.halted store.old) (C.given clock.old) (I.given ids.old) (O.contents out.old) (O.faults out.old) log.old.committed.items log.old.left.items)
-        (point (S.past store.new) (S.faults store.new) (S.halted store.new) (C.given clock.new) (I.given ids.new) (O.contents out.new) (O.faults out.new) log.new.committed.items log.new.left.items) }
+    ensures { Between S.past S.faults S.halted C.given I.given O.contents O.faults store.old store.new clock.old clock.new ids.old ids.new out.old out.new (noted log.old) (noted log.new) (EndedIfAny tasks.now result) }
 {
     for task in tasks {
         let status = run_task::<S, C, I, O>(alloc, task, store, clock, ids, out, log);
@@ -57,8 +54,7 @@ fn run_words<S: Store<Alone>, C: Clock, I: Ids, O: Sink>(
     out: &mut O,
 ) -> Outcome
     requires start { WhereTold (S.past store.old) (InState (λ d. d.pending ≡ [])) }
-    ensures told { Runs words.now result.status (point (S.past store.old) (S.faults store.old) (S.halted store.old) (C.given clock.old) (I.given ids.old) (O.contents out.old) (O.faults out.old) [] [])
-        (point (S.past store.new) (S.faults store.new) (S.halted store.new) (C.given clock.new) (I.given ids.new) (O.contents out.new) (O.faults out.new) result.committed result.left) }
+    ensures told { Between S.past S.faults S.halted C.given I.given O.contents O.faults store.old store.new clock.old clock.new ids.old ids.new out.old out.new no_notes (run_notes result) (Runs words.now result.status) }
     ensures no_call { (status : TheStatus) → RefusesWords words.now status → store.new ≡ store.old }
 {
     let mut log = Log {
@@ -99,23 +95,12 @@ pub fn run<R: AllocGlobal, S: Store<Alone>, C: Clock, I: Ids, O: Sink, X: Sink>(
     err: &mut X,
 ) -> Outcome
     requires start { WhereTold (S.past store.old) (InState (λ d. d.pending ≡ [])) }
-    ensures told { Runs words.now result.status (point (S.past store.old) (S.faults store.old) (S.halted store.old) (C.given clock.old) (I.given ids.old) (O.contents out.old) (O.faults out.old) [] [])
-        (point (S.past store.new) (S.faults store.new) (S.halted store.new) (C.given clock.new) (I.given ids.new) (O.contents out.new) (O.faults out.new) result.committed result.left) }
+    ensures told { Between S.past S.faults S.halted C.given I.given O.contents O.faults store.old store.new clock.old clock.new ids.old ids.new out.old out.new no_notes (run_notes result) (Runs words.now result.status) }
     ensures refused { (status : TheStatus) → RefusesWords words.now status → (result.status ≡ status) ⊎ (result.status ≡ Status.OutOfMemory) }
     ensures no_call { (status : TheStatus) → RefusesWords words.now status → store.new ≡ store.old }
     ensures bad_statement { (word at : ℕ) → result.status ≡ Status.BadStatement word at → RefusesWords words.now result.status }
     ensures bad_argument { Since (S.past store.old) (S.past store.new) (TellsBadArgument words.now result.status) }
-    ensures done { ComesExactly words.now result.status (S.past store.old) (S.past store.new) Status.Done }
-    ensures no_table { (place : Parts) → ComesExactly words.now result.status (S.past store.old) (S.past store.new) (Status.NoTable place) }
-    ensures location_differs { (table : Parts) (location : List ℕ) → ComesExactly words.now result.status (S.past store.old) (S.past store.new) (Status.LocationDiffers table location) }
-    ensures missing { (place : Parts) → ComesExactly words.now result.status (S.past store.old) (S.past store.new) (Status.Missing place) }
-    ensures damaged { (place : Parts) (at : TheWhere) → ComesExactly words.now result.status (S.past store.old) (S.past store.new) (Status.Damaged place at) }
-    ensures unsupported { (place : Parts) (what : TheWhat) → ComesExactly words.now result.status (S.past store.old) (S.past store.new) (Status.Unsupported place what) }
-    ensures unknown_snapshot { (id : ℤ) → ComesExactly words.now result.status (S.past store.old) (S.past store.new) (Status.UnknownSnapshot id) }
-    ensures unknown_ref { (name : List ℕ) → ComesExactly words.now result.status (S.past store.old) (S.past store.new) (Status.UnknownRef name) }
-    ensures not_ancestor { (id : ℤ) (of : Option ℤ) → ComesExactly words.now result.status (S.past store.old) (S.past store.new) (Status.NotAncestor id of) }
-    ensures name_taken { (place : Parts) → ComesExactly words.now result.status (S.past store.old) (S.past store.new) (Status.NameTaken place) }
-    ensures contended { (version : ℕ) → ComesExactly words.now result.status (S.past store.old) (S.past store.new) (Status.Contended version) }
+    ensures exactly { (asked : TheStatus) → (IsFree asked → ⊥) → ComesExactly words.now result.status (S.past store.old) (S.past store.new) asked }
     ensures complete { IsComplete words.now result.status (S.past store.old) (S.past store.new) (Rose (S.faults store.old) (S.faults store.new)) (Rose (O.faults out.old) (O.faults out.new)) }
     ensures store_fault { (place : Parts) → result.status ≡ Status.StoreFault place → Rose (S.faults store.old) (S.faults store.new) }
     ensures unknown { (version : ℕ) → result.status ≡ Status.CommitUnknown version → Rose (S.faults store.old) (S.faults store.new) }

@@ -10,8 +10,8 @@ ghost use Rattle.upkeep_top.specs.declared.task.Task.{Task as TheTask};
 use crate::task::{Task, Work};
 use call_syntax::{ArgErr, Call, Command, SyntaxErr, Target, read_statement, typed};
 use ice_store::{Items, Place, Text};
-use run_refs::Goal;
 use run_answers::Status;
+use run_refs::Goal;
 use std::alloc::Global;
 
 // an error of a word's name, or want of memory

@@ -1,6 +1,6 @@
 use Rattle.std.proofs.Common.{inl, inr, refl}
-use Rattle.run_answers.specs.declared.status.Status.TheVariants.{Done, NoTable, LocationDiffers, Missing, Damaged, Unsupported, UnknownSnapshot, UnknownRef, NotAncestor, NameTaken, Contended}
 use Rattle.upkeep_top.proofs.RunLaws as laws
+use Rattle.upkeep_top.proofs.VerdictLaws.{not_free}
 use Rattle.upkeep_top.proofs.top_call.run.Goals as goal
 
 pub returns-clause-refused : goal.returns-clause-refused
@@ -12,38 +12,8 @@ returns-clause-bad_statement g c = λ word at is. laws.bad_statement _ _ _ _ c.r
 pub returns-clause-bad_argument : goal.returns-clause-bad_argument
 returns-clause-bad_argument g c = laws.bad_argument _ _ _ _ c.run_words-outcome.ensures.told
 
-pub returns-clause-done : goal.returns-clause-done
-returns-clause-done g c = laws.comes _ _ _ _ c.run_words-outcome.ensures.told Done refl
-
-pub returns-clause-no_table : goal.returns-clause-no_table
-returns-clause-no_table g c = λ place. laws.comes _ _ _ _ c.run_words-outcome.ensures.told (NoTable place) refl
-
-pub returns-clause-location_differs : goal.returns-clause-location_differs
-returns-clause-location_differs g c = λ table location. laws.comes _ _ _ _ c.run_words-outcome.ensures.told (LocationDiffers table location) refl
-
-pub returns-clause-missing : goal.returns-clause-missing
-returns-clause-missing g c = λ place. laws.comes _ _ _ _ c.run_words-outcome.ensures.told (Missing place) refl
-
-pub returns-clause-damaged : goal.returns-clause-damaged
-returns-clause-damaged g c = λ place at. laws.comes _ _ _ _ c.run_words-outcome.ensures.told (Damaged place at) refl
-
-pub returns-clause-unsupported : goal.returns-clause-unsupported
-returns-clause-unsupported g c = λ place what. laws.comes _ _ _ _ c.run_words-outcome.ensures.told (Unsupported place what) refl
-
-pub returns-clause-unknown_snapshot : goal.returns-clause-unknown_snapshot
-returns-clause-unknown_snapshot g c = λ id. laws.comes _ _ _ _ c.run_words-outcome.ensures.told (UnknownSnapshot id) refl
-
-pub returns-clause-unknown_ref : goal.returns-clause-unknown_ref
-returns-clause-unknown_ref g c = λ name. laws.comes _ _ _ _ c.run_words-outcome.ensures.told (UnknownRef name) refl
-
-pub returns-clause-not_ancestor : goal.returns-clause-not_ancestor
-returns-clause-not_ancestor g c = λ id of. laws.comes _ _ _ _ c.run_words-outcome.ensures.told (NotAncestor id of) refl
-
-pub returns-clause-name_taken : goal.returns-clause-name_taken
-returns-clause-name_taken g c = λ place. laws.comes _ _ _ _ c.run_words-outcome.ensures.told (NameTaken place) refl
-
-pub returns-clause-contended : goal.returns-clause-contended
-returns-clause-contended g c = λ version. laws.comes _ _ _ _ c.run_words-outcome.ensures.told (Contended version) refl
+pub returns-clause-exactly : goal.returns-clause-exactly
+returns-clause-exactly g c = λ asked plain. laws.comes _ _ _ _ c.run_words-outcome.ensures.told asked (not_free asked plain)
 
 pub returns-clause-complete : goal.returns-clause-complete
 returns-clause-complete g c = laws.complete _ _ _ _ c.run_words-outcome.ensures.told

@@ -1,5 +1,5 @@
 //! The procedures that move or list refs, on tables with a branch beside or ahead of `main`.
-use super::{outcome_of, outcome_on};
+use crate::fixtures::{outcome_of, outcome_on};
 use std::test::Fail;
 
 // A snapshot 44 of parent 11, and a branch `b` on it.

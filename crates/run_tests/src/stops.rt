@@ -1,12 +1,13 @@
 //! What a stop leaves, in all its images.
-use super::{
-    Ran, Solo, draft, place, run_over, second_draft, sink, table, text_of, version_3, words_of,
+use crate::fixtures::{
+    Ran, Solo, draft, place, run_over, second_draft, sink, table, text_of, three_snapshots,
+    words_of,
 };
 use commit_protocol::open_table;
 use ice_store::{Alone, Bytes, Items, Place};
-use store_memory::{Choice, FailAt, Torn};
 use std::alloc::Global;
 use std::test::Fail;
+use store_memory::{Choice, FailAt, Torn};
 
 fn torn(alloc: Global, at: &str, content: &str) -> Result<Torn, Fail> {
     Ok(Torn {
@@ -43,7 +44,7 @@ fn stopped(rt: &HostRuntime, lines: &str, stop: (u64, bool)) -> Result<Ran, Fail
     let alloc = rt.alloc();
     let (call, took) = stop;
     let words = words_of(alloc, lines)?;
-    let files = table(alloc, version_3().as_bytes())?;
+    let files = table(alloc, three_snapshots().as_bytes())?;
     let fails = vec![in alloc; FailAt { call, took }]?;
     let mut out = sink(alloc)?;
     let mut err = sink(alloc)?;

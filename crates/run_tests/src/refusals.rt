@@ -1,6 +1,7 @@
 //! Tables that are refused, with their messages; nothing is written there.
-use super::{
-    file, no_failures, outcome, outcome_of, outcome_on, run_over, shown, sink, version_3, words_of,
+use crate::fixtures::{
+    file, no_failures, outcome, outcome_of, outcome_on, run_over, shown, sink, three_snapshots,
+    words_of,
 };
 use std::test::Fail;
 
@@ -144,14 +145,14 @@ fn required_fields_are_missed(rt: HostRuntime) -> Result<(), Fail> {
 
 // whether the table is damaged as a whole where only this many bytes of its metadata are there
 fn is_damaged_at(rt: &HostRuntime, len: usize) -> Result<bool, Fail> {
-    let part = version_3().as_bytes().get(..len).unwrap_or(b"");
+    let part = three_snapshots().as_bytes().get(..len).unwrap_or(b"");
     let left = outcome(rt, part, no_failures(rt.alloc()), to_11())?;
     Ok(left.as_str() == "2\n! upkeep: damaged /w/t/metadata/v3.metadata.json at field \n")
 }
 
 #[test]
 fn cut_metadata_is_damaged(rt: HostRuntime) -> Result<(), Fail> {
-    for len in 0..version_3().len() {
+    for len in 0..three_snapshots().len() {
         assert!(rt; is_damaged_at(&rt, len)?, "{len}");
     }
     Ok(())
@@ -161,7 +162,7 @@ fn cut_metadata_is_damaged(rt: HostRuntime) -> Result<(), Fail> {
 fn outcome_at(rt: &HostRuntime, at: &str) -> Result<String, Fail> {
     let alloc = rt.alloc();
     let words = words_of(alloc, to_11())?;
-    let files = vec![in alloc; file(alloc, at, version_3().as_bytes())?]?;
+    let files = vec![in alloc; file(alloc, at, three_snapshots().as_bytes())?]?;
     let mut out = sink(alloc)?;
     let mut err = sink(alloc)?;
     let ran = run_over(rt, files, no_failures(alloc), &words, &mut out, &mut err)?;

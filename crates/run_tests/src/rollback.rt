@@ -1,7 +1,7 @@
 //! Rollbacks, on a quiet store and on one whose calls fail.
-use super::{
+use crate::fixtures::{
     Ran, draft, file, next, no_failures, outcome_failing, outcome_of, place, run_over, shown, sink,
-    table, version_3, words_of,
+    table, three_snapshots, words_of,
 };
 use ice_store::Place;
 use std::test::Fail;
@@ -38,7 +38,7 @@ fn holds_version_4(ran: &Ran, at: &Place) -> bool {
 fn makes_version_4(rt: &HostRuntime) -> Result<bool, Fail> {
     let alloc = rt.alloc();
     let words = words_of(alloc, to_11())?;
-    let files = table(alloc, version_3().as_bytes())?;
+    let files = table(alloc, three_snapshots().as_bytes())?;
     let at = place(alloc, next())?;
     let mut out = sink(alloc)?;
     let mut err = sink(alloc)?;
@@ -58,7 +58,7 @@ fn rollback_to_11(rt: HostRuntime) -> Result<(), Fail> {
 fn outcome_on_taken_name(rt: &HostRuntime) -> Result<String, Fail> {
     let alloc = rt.alloc();
     let words = words_of(alloc, to_11())?;
-    let mut files = table(alloc, version_3().as_bytes())?;
+    let mut files = table(alloc, three_snapshots().as_bytes())?;
     files.push(file(alloc, draft(), b"")?)?;
     let mut out = sink(alloc)?;
     let mut err = sink(alloc)?;

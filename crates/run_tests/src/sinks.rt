@@ -1,9 +1,9 @@
 //! Output that fails.
-use super::{no_failures, run_over, shown, sink, table, version_3, words_of};
+use crate::fixtures::{no_failures, run_over, shown, sink, table, three_snapshots, words_of};
 use ice_store::Items;
-use store_memory::MemSink;
 use std::alloc::Global;
 use std::test::Fail;
+use store_memory::MemSink;
 
 // a sink with this room, of which the put of this number, counted from 0, fails
 fn failing_sink(alloc: Global, room: usize, put: u64) -> Result<MemSink, Fail> {
@@ -23,7 +23,7 @@ fn outcome_into(
 ) -> Result<String, Fail> {
     let alloc = rt.alloc();
     let words = words_of(alloc, lines)?;
-    let files = table(alloc, version_3().as_bytes())?;
+    let files = table(alloc, three_snapshots().as_bytes())?;
     let ran = run_over(rt, files, no_failures(alloc), &words, out, err)?;
     Ok(shown(alloc, &ran, out, err)?)
 }

@@ -1,21 +1,14 @@
 //! Messages and reports, with texts worked out by hand from the published table.
-use crate::{
+use crate::fixtures::{place, text_of};
+use commit_protocol::{CommitErr, OpenErr, Other, Refusal};
+use ice_store::{Items, Place, ReadErr, Text, TextList, What, Where};
+use run_answers::{
     CellRows, Status, columns, id_cell, number_cell, optional_id_cell, put_message, report,
     status_of_error, status_of_open, status_of_read, status_of_refusal,
 };
-use commit_protocol::{CommitErr, OpenErr, Other, Refusal};
-use ice_store::{Items, Place, ReadErr, Text, TextList, What, Where};
-use store_memory::MemSink;
 use std::alloc::Global;
 use std::test::Fail;
-
-fn text(alloc: Global, text: &str) -> Result<Text, Fail> {
-    Ok(Text::copy_of(alloc, text.as_bytes())?)
-}
-
-fn place(alloc: Global, at: &str) -> Result<Place, Fail> {
-    Ok(Place::read(alloc, &text(alloc, at)?)?)
-}
+use store_memory::MemSink;
 
 fn unsupported(alloc: Global, what: What) -> Result<Status, Fail> {
     let place = place(alloc, "/w/t")?;
@@ -44,7 +37,7 @@ fn refused(alloc: Global, row: usize) -> Result<(Status, u8, &'static str), Fail
         2 => (
             Status::BadArgument {
                 word: 9,
-                name: text(alloc, "re\\tain\n")?,
+                name: text_of(alloc, "re\\tain\n")?,
             },
             1,
             "upkeep: statement 10: bad argument re\\\\tain\\n\n",
@@ -56,7 +49,7 @@ fn refused(alloc: Global, row: usize) -> Result<(Status, u8, &'static str), Fail
         ),
         4 => (
             Status::UnknownRef {
-                name: text(alloc, "a\tb")?,
+                name: text_of(alloc, "a\tb")?,
             },
             1,
             "upkeep: unknown ref a\\tb\n",
@@ -77,7 +70,7 @@ fn refused(alloc: Global, row: usize) -> Result<(Status, u8, &'static str), Fail
         7 => (
             Status::StillReferenced {
                 id: 33,
-                name: text(alloc, "main")?,
+                name: text_of(alloc, "main")?,
             },
             1,
             "upkeep: snapshot 33 is still referenced by main\n",
@@ -118,13 +111,13 @@ fn faulty(alloc: Global, row: usize) -> Result<(Status, u8, &'static str), Fail>
             "upkeep: damaged /w/t/m at byte 18446744073709551615\n",
         ),
         4 => (
-            damaged(alloc, Where::Path(text(alloc, "properties.a\tb")?))?,
+            damaged(alloc, Where::Path(text_of(alloc, "properties.a\tb")?))?,
             2,
             "upkeep: damaged /w/t/m at field properties.a\\tb\n",
         ),
         5 => (
             Status::OutsidePrefix {
-                path: text(alloc, "s3://b/\\x")?,
+                path: text_of(alloc, "s3://b/\\x")?,
             },
             2,
             "upkeep: outside the source prefix: s3://b/\\\\x\n",
@@ -143,7 +136,7 @@ fn faulty(alloc: Global, row: usize) -> Result<(Status, u8, &'static str), Fail>
         ),
         _ => (
             Status::UnknownVersion {
-                name: text(alloc, "v9.metadata.json")?,
+                name: text_of(alloc, "v9.metadata.json")?,
             },
             2,
             "upkeep: unknown version v9.metadata.json\n",
@@ -259,7 +252,7 @@ fn located(alloc: Global) -> Result<Status, Fail> {
     let table = place(alloc, "/w/t")?;
     Ok(Status::LocationDiffers {
         table,
-        location: text(alloc, "/w\tx\\y\n")?,
+        location: text_of(alloc, "/w\tx\\y\n")?,
     })
 }
 
@@ -306,7 +299,7 @@ fn id_rows(alloc: Global) -> Result<CellRows, Fail> {
 }
 
 fn text_rows(alloc: Global) -> Result<CellRows, Fail> {
-    let row = pair(alloc, text(alloc, "a\tb\\")?, text(alloc, "\nc")?)?;
+    let row = pair(alloc, text_of(alloc, "a\tb\\")?, text_of(alloc, "\nc")?)?;
     Ok(Items::new(vec![in alloc; row]?))
 }
 
@@ -314,13 +307,13 @@ fn text_rows(alloc: Global) -> Result<CellRows, Fail> {
 fn reports(rt: HostRuntime) -> Result<(), Fail> {
     let alloc = rt.alloc();
     let none = reported(alloc, Items::empty(alloc))?;
-    assert!(rt; none == text(alloc, "previous_snapshot_id\tcurrent_snapshot_id\n")?);
+    assert!(rt; none == text_of(alloc, "previous_snapshot_id\tcurrent_snapshot_id\n")?);
     let ids = reported(alloc, id_rows(alloc)?)?;
     let want = "previous_snapshot_id\tcurrent_snapshot_id\nnull\t-11\n33\t9000\n";
-    assert!(rt; ids == text(alloc, want)?);
+    assert!(rt; ids == text_of(alloc, want)?);
     let texts = reported(alloc, text_rows(alloc)?)?;
     let want = "previous_snapshot_id\tcurrent_snapshot_id\na\\tb\\\\\t\\nc\n";
-    assert!(rt; texts == text(alloc, want)?);
+    assert!(rt; texts == text_of(alloc, want)?);
     Ok(())
 }
 
@@ -349,7 +342,7 @@ fn statuses_of_errors(rt: HostRuntime) -> Result<(), Fail> {
         assert_eq!(rt; number_of(alloc, row)?, number, "{row}");
     }
     let argument = Refusal::BadArgument {
-        name: text(alloc, "where")?,
+        name: text_of(alloc, "where")?,
     };
     let mut err = MemSink::new(alloc, 100, Items::empty(alloc))?;
     let put = put_message(&mut err, &status_of_refusal(1, argument));

@@ -1,5 +1,5 @@
 //! Lists of words, and the words that are refused before any store call.
-use super::{outcome_failing, outcome_of};
+use crate::fixtures::{outcome_failing, outcome_of};
 use std::test::Fail;
 
 fn to_22_and_11() -> &'static str {

@@ -1,28 +1,14 @@
-//! Statements over a store in memory. What a run left is looked at as a text.
-//!
-//! - `rollback`: rollbacks, on a quiet store and on one whose calls fail.
-//! - `refs`: the other procedures.
-//! - `words`: lists of words, and the words that are refused.
-//! - `refusals`: tables that are refused, and the messages.
-//! - `sinks`: output that fails.
-//! - `stops`: what a stop leaves.
-use crate::{Outcome, run};
-use ice_store::{Alone, Bytes, FileRec, Items, Place, Quiet, Step, Text};
-use store_memory::{CountIds, FailAt, FixedClock, MemSink, MemStore};
+//! A table with three snapshots, and runs over it in memory. What a run left is looked at as a text.
+use ice_store::{Alone, Bytes, FileRec, Items, Place, Step, Text};
 use std::alloc::{AllocError, Global};
 use std::test::Fail;
+use store_memory::{CountIds, FailAt, FixedClock, MemSink, MemStore, Quiet};
+use upkeep_top::{Outcome, run};
 
-mod refs;
-mod refusals;
-mod rollback;
-mod sinks;
-mod stops;
-mod words;
-
-type Solo = MemStore<Quiet<Alone>>;
+pub(crate) type Solo = MemStore<Quiet<Alone>>;
 
 // The table of three snapshots, 33 being the current one. In a function with no clause, so that no proof carries the text.
-fn version_3() -> &'static str {
+pub(crate) fn three_snapshots() -> &'static str {
     "{\"current-schema-id\":0,\"current-snapshot-id\":33,\"default-sort-order-id\":0,\"default-spec-id\":0,\"format-version\":2,\"last-column-id\":2,\"last-partition-id\":999,\"last-sequence-number\":3,\"last-updated-ms\":3000,\"location\":\"/w/t\",\"metadata-log\":[],\"partition-specs\":[{\"fields\":[],\"spec-id\":0}],\"properties\":{},\"refs\":{\"main\":{\"snapshot-id\":33,\"type\":\"branch\"}},\"schemas\":[{\"fields\":[{\"id\":1,\"name\":\"id\",\"required\":true,\"type\":\"long\"},{\"id\":2,\"name\":\"name\",\"required\":false,\"type\":\"string\"}],\"schema-id\":0,\"type\":\"struct\"}],\"snapshot-log\":[{\"snapshot-id\":11,\"timestamp-ms\":1000},{\"snapshot-id\":22,\"timestamp-ms\":2000},{\"snapshot-id\":33,\"timestamp-ms\":3000}],\"snapshots\":[{\"manifest-list\":\"/w/t/metadata/l11.avro\",\"sequence-number\":1,\"snapshot-id\":11,\"summary\":{\"operation\":\"append\"},\"timestamp-ms\":1000},{\"manifest-list\":\"/w/t/metadata/l22.avro\",\"parent-snapshot-id\":11,\"sequence-number\":2,\"snapshot-id\":22,\"summary\":{\"operation\":\"append\"},\"timestamp-ms\":2000},{\"manifest-list\":\"/w/t/metadata/l33.avro\",\"parent-snapshot-id\":22,\"sequence-number\":3,\"snapshot-id\":33,\"summary\":{\"operation\":\"append\"},\"timestamp-ms\":3000}],\"sort-orders\":[{\"fields\":[],\"order-id\":0}],\"table-uuid\":\"9c12d441-03fe-4693-9a96-a0705ddf69c1\"}"
 }
 
@@ -30,34 +16,34 @@ fn base() -> &'static str {
     "/w/t/metadata/v3.metadata.json"
 }
 
-fn next() -> &'static str {
+pub(crate) fn next() -> &'static str {
     "/w/t/metadata/v4.metadata.json"
 }
 
-fn draft() -> &'static str {
+pub(crate) fn draft() -> &'static str {
     "/w/t/metadata/00000000-0000-0000-0000-000000000001.metadata.json"
 }
 
-fn second_draft() -> &'static str {
+pub(crate) fn second_draft() -> &'static str {
     "/w/t/metadata/00000000-0000-0000-0000-000000000002.metadata.json"
 }
 
 /// What a run left.
 #[derive(Drop)]
-struct Ran {
-    outcome: Outcome,
-    store: Solo,
+pub(crate) struct Ran {
+    pub(crate) outcome: Outcome,
+    pub(crate) store: Solo,
 }
 
-fn text_of(alloc: Global, text: &str) -> Result<Text, Fail> {
+pub(crate) fn text_of(alloc: Global, text: &str) -> Result<Text, Fail> {
     Ok(Text::copy_of(alloc, text.as_bytes())?)
 }
 
-fn place(alloc: Global, text: &str) -> Result<Place, Fail> {
+pub(crate) fn place(alloc: Global, text: &str) -> Result<Place, Fail> {
     Ok(Place::read(alloc, &text_of(alloc, text)?)?)
 }
 
-fn file(alloc: Global, at: &str, content: &[u8]) -> Result<FileRec, Fail> {
+pub(crate) fn file(alloc: Global, at: &str, content: &[u8]) -> Result<FileRec, Fail> {
     let bytes = Bytes::copy_of(alloc, content)?;
     Ok(FileRec {
         place: place(alloc, at)?,
@@ -76,7 +62,7 @@ fn replaced(alloc: Global, text: &str, from: &str, to: &str) -> Result<String, A
 
 // The table of three snapshots with changes, each `from=>to`, and `;;` between two of them.
 fn changed(alloc: Global, changes: &str) -> Result<String, AllocError> {
-    let mut text = String::from_str(alloc, version_3())?;
+    let mut text = String::from_str(alloc, three_snapshots())?;
     for change in changes.split(";;") {
         let (from, to) = change.split_once("=>").unwrap_or(("", ""));
         text = replaced(alloc, text.as_str(), from, to)?;
@@ -85,12 +71,12 @@ fn changed(alloc: Global, changes: &str) -> Result<String, AllocError> {
 }
 
 // the table at version 3 with this content, and nothing else
-fn table(alloc: Global, content: &[u8]) -> Result<Vec<FileRec>, Fail> {
+pub(crate) fn table(alloc: Global, content: &[u8]) -> Result<Vec<FileRec>, Fail> {
     Ok(vec![in alloc; file(alloc, base(), content)?]?)
 }
 
 // the words of a text, one a line
-fn words_of(alloc: Global, lines: &str) -> Result<Vec<Text>, Fail> {
+pub(crate) fn words_of(alloc: Global, lines: &str) -> Result<Vec<Text>, Fail> {
     let mut words = Vec::new(alloc);
     for line in lines.split("\n") {
         if !line.is_empty() {
@@ -100,20 +86,20 @@ fn words_of(alloc: Global, lines: &str) -> Result<Vec<Text>, Fail> {
     Ok(words)
 }
 
-fn no_failures(alloc: Global) -> Vec<FailAt> {
+pub(crate) fn no_failures(alloc: Global) -> Vec<FailAt> {
     Vec::new(alloc)
 }
 
-fn clock(alloc: Global) -> Result<FixedClock, Fail> {
+pub(crate) fn clock(alloc: Global) -> Result<FixedClock, Fail> {
     Ok(FixedClock::new(Items::new(vec![in alloc; 9000]?)))
 }
 
-fn sink(alloc: Global) -> Result<MemSink, Fail> {
+pub(crate) fn sink(alloc: Global) -> Result<MemSink, Fail> {
     Ok(MemSink::new(alloc, 1000, Items::empty(alloc))?)
 }
 
 // runs words over these files, at the moment 9000
-fn run_over(
+pub(crate) fn run_over(
     rt: &HostRuntime,
     files: Vec<FileRec>,
     fails: Vec<FailAt>,
@@ -206,12 +192,17 @@ fn shown_run(alloc: Global, ran: &Ran) -> Result<String, AllocError> {
     labelled(alloc, head.as_str(), "by", steps.as_str())
 }
 
-fn shown_sink(sink: &MemSink) -> &str {
+pub(crate) fn shown_sink(sink: &MemSink) -> &str {
     std::str::from_utf8(sink.bytes()).unwrap_or("no text")
 }
 
 // what a run left, a line feed, what it put on `out`, and behind `! ` what it put on `err`
-fn shown(alloc: Global, ran: &Ran, out: &MemSink, err: &MemSink) -> Result<String, AllocError> {
+pub(crate) fn shown(
+    alloc: Global,
+    ran: &Ran,
+    out: &MemSink,
+    err: &MemSink,
+) -> Result<String, AllocError> {
     let head = shown_run(alloc, ran)?;
     let head = head.as_str();
     let report = shown_sink(out);
@@ -224,7 +215,7 @@ fn shown(alloc: Global, ran: &Ran, out: &MemSink, err: &MemSink) -> Result<Strin
 }
 
 // a run of words over a table with this content, with these failures
-fn outcome(
+pub(crate) fn outcome(
     rt: &HostRuntime,
     content: &[u8],
     fails: Vec<FailAt>,
@@ -240,19 +231,29 @@ fn outcome(
 }
 
 // a run of words over the table of three snapshots
-fn outcome_of(rt: &HostRuntime, lines: &str) -> Result<String, Fail> {
-    outcome(rt, version_3().as_bytes(), no_failures(rt.alloc()), lines)
+pub(crate) fn outcome_of(rt: &HostRuntime, lines: &str) -> Result<String, Fail> {
+    outcome(
+        rt,
+        three_snapshots().as_bytes(),
+        no_failures(rt.alloc()),
+        lines,
+    )
 }
 
 // and with these changes of the table
-fn outcome_on(rt: &HostRuntime, changes: &str, lines: &str) -> Result<String, Fail> {
+pub(crate) fn outcome_on(rt: &HostRuntime, changes: &str, lines: &str) -> Result<String, Fail> {
     let alloc = rt.alloc();
     let content = changed(alloc, changes)?;
     outcome(rt, content.as_bytes(), no_failures(alloc), lines)
 }
 
 // and with the store call of this number failing, its step taken or not
-fn outcome_failing(rt: &HostRuntime, call: u64, took: bool, lines: &str) -> Result<String, Fail> {
+pub(crate) fn outcome_failing(
+    rt: &HostRuntime,
+    call: u64,
+    took: bool,
+    lines: &str,
+) -> Result<String, Fail> {
     let fails = vec![in rt.alloc(); FailAt { call, took }]?;
-    outcome(rt, version_3().as_bytes(), fails, lines)
+    outcome(rt, three_snapshots().as_bytes(), fails, lines)
 }
