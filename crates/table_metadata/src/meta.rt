@@ -10,7 +10,7 @@ ghost use Rattle.metadata_form.specs.declared.fault.MetaCause.TheVariants.{NotJs
 ghost use Rattle.table_metadata.specs.Fault.{fault_of};
 ghost use Rattle.table_metadata.specs.View.{value_in, uuid_of, location_of, last_sequence_of, updated_of, current_of, current_schema_id_of, default_spec_id_of, snapshots_of, refs_of, ref_with, statistics_of, property_of};
 ghost use Rattle.table_metadata.specs.Spelling.{Spells, IsRefused, IsReadAs, IsUnknown, IsFaultOf};
-ghost use Rattle.table_metadata.specs.Edits.{with_ref, next_version, version_limit, HasVersionLimit};
+ghost use Rattle.table_metadata.specs.Edits.{with_ref, next_version, version_limit, kept_versions, HasVersionLimit};
 ghost use Rattle.table_metadata.specs.Walk.{IsWalk, IsAncestor, snapshot_with};
 ghost use Rattle.table_metadata.specs.declared.cause.MetaErr.TheVariants.{Bad};
 ghost use Rattle.table_metadata.specs.declared.cause.EditErr.TheVariants.{UnknownSnapshot};
@@ -155,7 +155,29 @@ pub fn write_meta(alloc: Global, meta: &Meta) -> Result<Bytes, AllocError>
     ensures text { IfOk result (λ b. b ≡ compact_text (view meta.now)) }
     ensures spells { IfOk result (λ b. Spells b (view meta.now)) }
 {
-    Ok(Bytes::new(meta.tree.to_vec(alloc)?))
+    written(alloc, &meta.tree)
+}
+
+fn written(alloc: Global, tree: &Value) -> Result<Bytes, AllocError>
+    requires sound { fault_of (view tree.now) ≡ None }
+    requires shallow { depth (view tree.now) ≤ max_depth }
+    ensures text { IfOk result (λ b. b ≡ compact_text (view tree.now)) }
+    ensures spells { IfOk result (λ b. Spells b (view tree.now)) }
+{
+    Ok(Bytes::new(tree.to_vec(alloc)?))
+}
+
+// The metadata with a ref, of the tree of well-formed metadata.
+fn with_ref(alloc: Global, tree: Value, name: &Text, id: i64, ms: u64) -> Result<Meta, AllocError>
+    requires sound { fault_of (view tree) ≡ None }
+    requires shallow { depth (view tree) ≤ max_depth }
+    requires utf8 { IsUtf8 name.now }
+    requires known { IsSome (snapshot_with (snapshots_of (view tree)) id) }
+    requires moment { ms < 2 ^ 63 }
+    ensures { IfOk result (λ m. view m ≡ with_ref name.now id ms (view tree)) }
+{
+    let tree = edits::with_ref(alloc, tree, as_str(name), id, ms)?;
+    meta_of(alloc, tree)
 }
 
 impl Meta {
@@ -311,8 +333,32 @@ impl Meta {
         if !has(&self.index, self.typed.snapshots.inner(), id) {
             return Err(EditErr::UnknownSnapshot { id });
         }
-        let tree = edits::with_ref(alloc, &self.tree, as_str(name), id, ms)?;
-        Ok(meta_of(alloc, tree)?)
+        Ok(with_ref(alloc, self.tree.clone()?, name, id, ms)?)
+    }
+
+    /// The same metadata with the ref, as `with_ref` says, without a copy.
+    pub fn into_with_ref(
+        self,
+        alloc: Global,
+        name: &Text,
+        id: i64,
+        ms: u64,
+    ) -> Result<Meta, AllocError>
+        requires utf8 { IsUtf8 name.now }
+        requires known { IsSome (snapshot_with (snapshots_of (view self)) id) }
+        requires moment { ms < 2 ^ 63 }
+        ensures { IfOk result (λ m. view m ≡ with_ref name.now id ms (view self)) }
+    {
+        with_ref(alloc, self.into_tree(), name, id, ms)
+    }
+
+    // The typed view goes before an edit makes a new one.
+    fn into_tree(self) -> Value
+        ensures tree { view result ≡ view self }
+        ensures sound { fault_of (view self) ≡ None }
+        ensures shallow { depth (view self) ≤ max_depth }
+    {
+        self.tree
     }
 
     fn version_limit(&self) -> Option<u64>
@@ -332,6 +378,13 @@ impl Meta {
         self.version_limit().is_some()
     }
 
+    fn kept_versions(&self) -> u64
+        ensures value { result ≡ kept_versions (version_limit (view self.now)) }
+        ensures some { 0 < result }
+    {
+        self.version_limit().unwrap_or(100).max(1)
+    }
+
     /// The metadata of the next version: updated at `ms` or, where that is later, at its own moment. The text
     /// `previous` of the metadata file before it goes to the metadata log, of which the last items stay, as many as
     /// `write.metadata.previous-versions-max` says (100 where it is absent), at least 1. Every other field stays.
@@ -343,9 +396,27 @@ impl Meta {
         ensures stays { IfOk result (λ m. (key : List ℕ) → key ≢ codes "last-updated-ms"
             → key ≢ codes "metadata-log" → get key (view m) ≡ get key (view self.now)) }
     {
-        let most = self.version_limit().unwrap_or(100).max(1);
-        let tree = edits::next_version(alloc, &self.tree, as_str(previous), ms, most)?;
+        let most = self.kept_versions();
+        let tree = edits::next_version(alloc, self.tree.clone()?, as_str(previous), ms, most)?;
         meta_of(alloc, tree)
+    }
+
+    /// The written spelling of the next version, as `next_version` says, without a copy of the tree.
+    pub fn into_next_version_bytes(
+        self,
+        alloc: Global,
+        previous: &Text,
+        ms: u64,
+    ) -> Result<Bytes, AllocError>
+        requires utf8 { IsUtf8 previous.now }
+        requires moment { ms < 2 ^ 63 }
+        requires limit { HasVersionLimit (view self) }
+        ensures text { IfOk result (λ b. b ≡ compact_text (next_version previous.now ms (view self))) }
+        ensures spells { IfOk result (λ b. Spells b (next_version previous.now ms (view self))) }
+    {
+        let most = self.kept_versions();
+        let tree = edits::next_version(alloc, self.into_tree(), as_str(previous), ms, most)?;
+        written(alloc, &tree)
     }
 }
 
