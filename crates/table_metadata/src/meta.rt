@@ -7,22 +7,23 @@ ghost use Rattle.serde_json.specs.View.{view};
 ghost use Rattle.serde_json.specs.Written.{compact_text};
 ghost use Rattle.metadata_form.specs.Fault.{form_fault};
 ghost use Rattle.metadata_form.specs.declared.fault.MetaCause.TheVariants.{NotJson};
-ghost use Rattle.table_metadata.specs.Fault.{fault_of};
-ghost use Rattle.table_metadata.specs.View.{value_in, uuid_of, location_of, last_sequence_of, updated_of, current_of, current_schema_id_of, default_spec_id_of, snapshots_of, refs_of, ref_with, statistics_of, property_of};
+ghost use Rattle.metadata_links.specs.Fault.{fault_of};
+ghost use Rattle.metadata_view.specs.View.{value_in, uuid_of, location_of, last_sequence_of, updated_of, current_of, current_schema_id_of, default_spec_id_of, snapshots_of, refs_of, ref_with, statistics_of, property_of};
 ghost use Rattle.table_metadata.specs.Spelling.{Spells, IsRefused, IsReadAs, IsUnknown, IsFaultOf};
-ghost use Rattle.table_metadata.specs.Edits.{with_ref, next_version, version_limit, kept_versions, HasVersionLimit};
-ghost use Rattle.table_metadata.specs.Walk.{IsWalk, IsAncestor, snapshot_with};
+ghost use Rattle.table_metadata.specs.Edits.{with_ref, next_version, next_keeping, version_limit, kept_versions, HasVersionLimit};
+ghost use Rattle.metadata_view.specs.Walk.{IsWalk, IsAncestor, snapshot_with};
 ghost use Rattle.table_metadata.specs.declared.cause.MetaErr.TheVariants.{Bad};
 ghost use Rattle.table_metadata.specs.declared.cause.EditErr.TheVariants.{UnknownSnapshot};
 
 use crate::cause::{EditErr, MetaErr};
-use crate::index::{Index, Indexed, find, has, index_of};
-use crate::links::{double_id, links_fault};
-use crate::typed::{Typed, typed_view};
-use crate::types::{IdList, Property, Ref, RefList, Snapshot, SnapshotList, StatisticsList};
-use crate::{edits, walk};
+use crate::edits;
 use ice_store::{Bytes, Items, Text};
 use metadata_form::{Fault, MetaCause, form_fault};
+use metadata_links::{double_id, links_fault};
+use metadata_view::{
+    IdList, Index, Indexed, Property, Ref, RefList, Snapshot, SnapshotList, StatisticsList, Typed,
+    find, has, index_of, on_walk, typed_view, walk,
+};
 use serde_json::Value;
 use std::alloc::{AllocError, Global};
 use std::marker::Model;
@@ -99,7 +100,7 @@ fn meta_of(alloc: Global, tree: Value) -> Result<Meta, AllocError>
 }
 
 // The metadata that a tree of the right form is, unless something is wrong among its snapshots.
-#[tactic(auto, unfolding(crate::specs::Fault::fault_of, crate::specs::Fault::snapshots_fault))]
+#[tactic(auto, unfolding(metadata_links::specs::Fault::fault_of, metadata_links::specs::Fault::snapshots_fault))]
 fn linked(alloc: Global, tree: Value) -> Result<Meta, MetaErr>
     requires form { form_fault (view tree) ≡ None }
     requires shallow { depth (view tree) ≤ max_depth }
@@ -306,7 +307,7 @@ impl Meta {
     pub fn ancestors(&self, alloc: Global, id: i64) -> Result<IdList, AllocError>
         ensures { IfOk result (λ ids. IsWalk (snapshots_of (view self.now)) (Some id) ids) }
     {
-        let ids = walk::walk(alloc, &self.index, self.typed.snapshots.inner(), Some(id))?;
+        let ids = walk(alloc, &self.index, self.typed.snapshots.inner(), Some(id))?;
         Ok(Items::new(ids))
     }
 
@@ -314,7 +315,7 @@ impl Meta {
     pub fn ancestor_of(&self, id: i64, of: i64) -> bool
         ensures { IsTrue result ↔ IsAncestor (snapshots_of (view self.now)) id of }
     {
-        walk::on_walk(&self.index, self.typed.snapshots.inner(), id, Some(of))
+        on_walk(&self.index, self.typed.snapshots.inner(), id, Some(of))
     }
 
     /// The metadata with the ref `name` at the snapshot `id`, at the moment `ms` or, where that is later, at the
@@ -397,7 +398,7 @@ impl Meta {
             → key ≢ codes "metadata-log" → get key (view m) ≡ get key (view self.now)) }
     {
         let most = self.kept_versions();
-        let tree = edits::next_version(alloc, self.tree.clone()?, as_str(previous), ms, most)?;
+        let tree = next_tree(alloc, self.tree.clone()?, previous, ms, most)?;
         meta_of(alloc, tree)
     }
 
@@ -415,9 +416,29 @@ impl Meta {
         ensures spells { IfOk result (λ b. Spells b (next_version previous.now ms (view self))) }
     {
         let most = self.kept_versions();
-        let tree = edits::next_version(alloc, self.into_tree(), as_str(previous), ms, most)?;
+        let tree = next_tree(alloc, self.into_tree(), previous, ms, most)?;
         written(alloc, &tree)
     }
+}
+
+// The tree of the next version, which keeps so many items of the metadata log.
+fn next_tree(
+    alloc: Global,
+    tree: Value,
+    previous: &Text,
+    ms: u64,
+    most: u64,
+) -> Result<Value, AllocError>
+    requires sound { fault_of (view tree) ≡ None }
+    requires shallow { depth (view tree) ≤ max_depth }
+    requires utf8 { IsUtf8 previous.now }
+    requires moment { ms < 2 ^ 63 }
+    requires some { 0 < most }
+    ensures tree { IfOk result (λ t. view t ≡ next_keeping most previous.now ms (view tree)) }
+    ensures sound { IfOk result (λ t. fault_of (view t) ≡ None) }
+    ensures shallow { IfOk result (λ t. depth (view t) ≤ max_depth) }
+{
+    edits::next_version(alloc, tree, as_str(previous), ms, most)
 }
 
 fn ref_with<'r>(refs: &'r [Ref], name: &Text) -> Option<&'r Ref>

@@ -1,0 +1,4 @@
+pub mod IndexLaws
+pub mod Lists
+pub mod PropertyLaws
+pub mod WalkLaws
