@@ -10,8 +10,8 @@ ghost use Rattle.metadata_links.specs.Links.{snapshot_path, double_path, is_main
 
 use crate::steps::first_return;
 use ice_store::Text;
-use metadata_json::{members, signed_or_zero};
 use metadata_form::{Fault, MetaCause, fault_at, in_item, in_member};
+use metadata_json::{members, signed_or_zero};
 use metadata_view::{Index, Snapshot, current, has, main_ref};
 use serde_json::{Map, Value};
 use std::alloc::{AllocError, Global};

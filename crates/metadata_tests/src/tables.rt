@@ -5,9 +5,7 @@ use crate::three_snapshots;
 use ice_store::{Bytes, Text};
 use std::alloc::{AllocError, Global};
 use std::test::Fail;
-use table_metadata::{
-    EditErr, Meta, MetaErr, Ref, Snapshot, Statistics, read_meta, write_meta,
-};
+use table_metadata::{EditErr, Meta, MetaErr, Ref, Snapshot, Statistics, read_meta, write_meta};
 
 // The same table after a rollback to 11 at 9000.
 fn rolled_back() -> &'static str {

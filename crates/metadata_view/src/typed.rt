@@ -11,10 +11,10 @@ use crate::types::{
     Property, PropertyList, Ref, RefList, Snapshot, SnapshotList, Statistics, StatisticsList,
 };
 use ice_store::{Items, Text};
+use metadata_form::{int, is_branch_text};
 use metadata_json::{
     items, members, object_at, set, signed, signed_or_zero, text_or_empty, unsigned_or_zero,
 };
-use metadata_form::{int, is_branch_text};
 use serde_json::{Map, Value, json};
 use std::alloc::{AllocError, Global};
 

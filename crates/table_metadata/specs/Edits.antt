@@ -1,7 +1,7 @@
 -- The edits of metadata (Iceberg table specification, Table Metadata and Snapshot References; file system tables).
 -- Each is made of `set` and `add`, which change one field and no other, so a field that isn't named here stays.
-use Rattle.std.specs.Prelude.{ℕ, ◌+◌, ◌-◌, ◌*◌, ◌^◌, ℤ, max, List, [], ◌∷◌, ◌&&◌, ◌==◌, not, nat_lt, length, codes, Option, Some, None, unwrap_or, IsSome, if◌then◌else◌}
-use Rattle.std.specs.Str.{all_ascii_digits}
+use Rattle.std.specs.Prelude.{ℕ, ℤ, max, List, codes, Option, Some, None, unwrap_or, IsSome, if◌then◌else◌}
+use Rattle.ice_store.specs.Numbers.{natural_of}
 use Rattle.serde_json.specs.Data.{Data, number, string, object, unsigned, member, no_members}
 use Rattle.serde_json.specs.Find.{get, of_integer}
 use Rattle.metadata_json.specs.Edits.{set, object_at, add, add_within}
@@ -35,19 +35,14 @@ with_ref name id ms d = if is_main name then with_current id (moment_of ms d) (w
 
 -- ---- the next version
 
--- the number that decimal digits make behind n
-abbrev pub read_on : ℕ → List ℕ → ℕ
-read_on n [] = n
-read_on n (c ∷ cs) = read_on (10 * n + (c - 48)) cs
+-- how many items a table keeps where it doesn't say (Iceberg table specification, write.metadata.previous-versions-max)
+abbrev pub default_versions : ℕ
+default_versions = 100
 
--- decimal digits up to 2^63 - 1
-unfoldable pub decimal_of : List ℕ → Option ℕ
-decimal_of text = if all_ascii_digits text && not (length text == 0) && nat_lt (read_on 0 text) (2 ^ 63) then Some (read_on 0 text) else None
-
--- the limit that the property's value sets; where it is absent, the limit of the specification
+-- the limit that the property's value sets, or the default where it is absent
 abbrev pub limit_in : Option (List ℕ) → Option ℕ
-limit_in None = Some 100
-limit_in (Some text) = decimal_of text
+limit_in None = Some default_versions
+limit_in (Some text) = natural_of text
 
 -- how many items of the metadata log a table keeps, where its property is absent or of its form
 unfoldable pub version_limit : Data → Option ℕ
@@ -59,7 +54,7 @@ HasVersionLimit d = IsSome (version_limit d)
 
 -- at least 1
 abbrev pub kept_versions : Option ℕ → ℕ
-kept_versions limit = max (unwrap_or limit 100) 1
+kept_versions limit = max (unwrap_or limit default_versions) 1
 
 -- an item of `metadata-log`: a metadata file, and the moment of its version
 unfoldable pub metadata_log_item : List ℕ → ℕ → Data

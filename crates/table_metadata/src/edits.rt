@@ -3,7 +3,7 @@ ghost use Rattle.std.specs.Prelude.{◌≡◌, ◌<◌, IfOk, option_map};
 ghost use Rattle.serde_json.specs.Find.{get};
 ghost use Rattle.metadata_json.specs.Edits.{set};
 ghost use Rattle.serde_json.specs.View.{view};
-ghost use Rattle.table_metadata.specs.Edits.{moved_ref, with_moved_ref, snapshot_log_item, with_current, moment_of, with_ref, decimal_of, metadata_log_item, with_previous, next_keeping};
+ghost use Rattle.table_metadata.specs.Edits.{moved_ref, with_moved_ref, snapshot_log_item, with_current, moment_of, with_ref, metadata_log_item, with_previous, next_keeping};
 
 use metadata_json::{
     Taken, add, add_within, object_or_empty, set, take, unsigned_or_zero,
@@ -78,27 +78,6 @@ pub(crate) fn with_ref(
     } else {
         Ok(moved)
     }
-}
-
-/// The number that decimal digits stand for, where it is at most 2^63 - 1.
-#[tactic(auto, unfolding(crate::specs::Edits::decimal_of))]
-pub(crate) fn decimal(text: &[u8]) -> Option<u64>
-    ensures { result ≡ decimal_of text.now }
-{
-    if text.is_empty() {
-        return None;
-    }
-    let mut n: u128 = 0;
-    for digit in text {
-        if !digit.is_ascii_digit() {
-            return None;
-        }
-        n = n * 10 + (*digit - b'0') as u128;
-        if n >= 1 << 63 {
-            return None;
-        }
-    }
-    Some(n as u64)
 }
 
 #[tactic(auto, unfolding(crate::specs::Edits::metadata_log_item))]

@@ -8,7 +8,7 @@ mod edits;
 mod meta;
 
 pub use cause::{EditErr, MetaErr};
-pub use meta::{Meta, read_meta, write_meta};
+pub use meta::{DEFAULT_VERSIONS, Meta, read_meta, write_meta};
 pub use metadata_form::MetaCause;
 pub use metadata_view::{
     IdList, Property, PropertyList, Ref, RefList, Snapshot, SnapshotList, Statistics,

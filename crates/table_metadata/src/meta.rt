@@ -17,7 +17,7 @@ ghost use Rattle.table_metadata.specs.declared.cause.EditErr.TheVariants.{Unknow
 
 use crate::cause::{EditErr, MetaErr};
 use crate::edits;
-use ice_store::{Bytes, Items, Text};
+use ice_store::{Bytes, Items, Text, natural_of};
 use metadata_form::{Fault, MetaCause, form_fault};
 use metadata_links::{double_id, links_fault};
 use metadata_view::{
@@ -27,6 +27,9 @@ use metadata_view::{
 use serde_json::Value;
 use std::alloc::{AllocError, Global};
 use std::marker::Model;
+
+/// How many items of the metadata log a table keeps where its property `write.metadata.previous-versions-max` is absent.
+pub const DEFAULT_VERSIONS: u64 = 100;
 
 /// Well-formed metadata, which contracts see as its JSON tree.
 #[derive(Drop)]
@@ -366,8 +369,8 @@ impl Meta {
         ensures { result ≡ version_limit (view self.now) }
     {
         match self.property("write.metadata.previous-versions-max") {
-            Some(text) => edits::decimal(text.inner().as_slice()),
-            None => Some(100),
+            Some(text) => natural_of(text.inner().as_slice()),
+            None => Some(DEFAULT_VERSIONS),
         }
     }
 
@@ -383,7 +386,7 @@ impl Meta {
         ensures value { result ≡ kept_versions (version_limit (view self.now)) }
         ensures some { 0 < result }
     {
-        self.version_limit().unwrap_or(100).max(1)
+        self.version_limit().unwrap_or(DEFAULT_VERSIONS).max(1)
     }
 
     /// The metadata of the next version: updated at `ms` or, where that is later, at its own moment. The text
