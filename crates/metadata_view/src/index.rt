@@ -70,7 +70,7 @@ pub fn has(index: &Index, snapshots: &[Snapshot], id: i64) -> bool
 }
 
 /// The place of the snapshot where a walk goes on.
-pub fn place_of(index: &Index, snapshots: &[Snapshot], next: Option<i64>) -> Option<usize>
+pub(crate) fn place_of(index: &Index, snapshots: &[Snapshot], next: Option<i64>) -> Option<usize>
     requires { IsIndex index.now snapshots.now }
     ensures { result ≡ place_of snapshots.now next }
 {

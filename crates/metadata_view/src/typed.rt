@@ -56,7 +56,7 @@ fn unsigned(tree: &Value, name: &str) -> Option<u64>
 }
 
 /// The current snapshot's id; absent, null and -1 stand for none.
-pub fn current(tree: &Value) -> Option<i64>
+pub(crate) fn current(tree: &Value) -> Option<i64>
     ensures { result ≡ current_of (view tree.now) }
 {
     match signed(tree, "current-snapshot-id") {
@@ -119,7 +119,7 @@ pub fn new_branch(alloc: Global, id: i64) -> Result<Value, AllocError>
 }
 
 /// The ref `main` that is written in `refs`.
-pub fn main_ref(tree: &Value) -> Option<&Value>
+pub(crate) fn main_ref(tree: &Value) -> Option<&Value>
     ensures { option_map (λ v. view v.now) result ≡ main_ref (view tree.now) }
 {
     match tree.get("refs") {

@@ -5,7 +5,7 @@ use Rattle.ice_store.specs.Numbers.{natural_of}
 use Rattle.serde_json.specs.Data.{Data, number, string, object, unsigned, member, no_members}
 use Rattle.serde_json.specs.Find.{get, of_integer}
 use Rattle.metadata_json.specs.Edits.{set, object_at, add, add_within}
-use Rattle.metadata_links.specs.Links.{is_main}
+use Rattle.metadata_view.specs.Links.{is_main}
 use Rattle.metadata_view.specs.View.{updated_of, property_of, new_branch}
 
 -- the ref at the snapshot; a new one is a branch

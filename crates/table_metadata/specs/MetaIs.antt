@@ -3,7 +3,7 @@ use Rattle.std.specs.Prelude.{◌≡◌, ◌≤◌, None, IsUtf8}
 use Rattle.serde_json.specs.Data.{depth}
 use Rattle.serde_json.specs.Read.{max_depth}
 use Rattle.serde_json.specs.View.{view}
-use Rattle.metadata_links.specs.Fault.{fault_of}
+use Rattle.metadata_view.specs.Fault.{fault_of}
 use Rattle.metadata_view.specs.View.{typed_of, snapshots_of}
 use Rattle.metadata_view.specs.Index.{IsIndex}
 use Rattle.table_metadata.specs.declared.meta.Meta.TheInside.{Inside}

@@ -7,7 +7,7 @@ ghost use Rattle.serde_json.specs.View.{view};
 ghost use Rattle.serde_json.specs.Written.{compact_text};
 ghost use Rattle.metadata_form.specs.Fault.{form_fault};
 ghost use Rattle.metadata_form.specs.declared.fault.MetaCause.TheVariants.{NotJson};
-ghost use Rattle.metadata_links.specs.Fault.{fault_of};
+ghost use Rattle.metadata_view.specs.Fault.{fault_of};
 ghost use Rattle.metadata_view.specs.View.{value_in, uuid_of, location_of, last_sequence_of, updated_of, current_of, current_schema_id_of, default_spec_id_of, snapshots_of, refs_of, ref_with, statistics_of, property_of};
 ghost use Rattle.table_metadata.specs.Spelling.{Spells, IsRefused, IsReadAs, IsUnknown, IsFaultOf};
 ghost use Rattle.table_metadata.specs.Edits.{with_ref, next_version, next_keeping, version_limit, kept_versions, HasVersionLimit};
@@ -19,10 +19,9 @@ use crate::cause::{EditErr, MetaErr};
 use crate::edits;
 use ice_store::{Bytes, Items, Text, natural_of};
 use metadata_form::{Fault, MetaCause, form_fault};
-use metadata_links::{double_id, links_fault};
 use metadata_view::{
     IdList, Index, Indexed, Property, Ref, RefList, Snapshot, SnapshotList, StatisticsList, Typed,
-    find, has, index_of, on_walk, typed_view, walk,
+    double_id, find, has, index_of, links_fault, on_walk, typed_view, walk,
 };
 use serde_json::Value;
 use std::alloc::{AllocError, Global};
@@ -103,7 +102,7 @@ fn meta_of(alloc: Global, tree: Value) -> Result<Meta, AllocError>
 }
 
 // The metadata that a tree of the right form is, unless something is wrong among its snapshots.
-#[tactic(auto, unfolding(metadata_links::specs::Fault::fault_of, metadata_links::specs::Fault::snapshots_fault))]
+#[tactic(auto, unfolding(metadata_view::specs::Fault::fault_of, metadata_view::specs::Fault::snapshots_fault))]
 fn linked(alloc: Global, tree: Value) -> Result<Meta, MetaErr>
     requires form { form_fault (view tree) ≡ None }
     requires shallow { depth (view tree) ≤ max_depth }

@@ -1,6 +1,6 @@
 use Rattle.std.proofs.lemmas.Result.{IfOk-weaker}
 use Rattle.serde_json.specs.View.{view}
-use Rattle.metadata_links.proofs.SoundLaws.{sound, no_fault}
+use Rattle.metadata_view.proofs.SoundLaws.{sound, no_fault}
 use Rattle.table_metadata.proofs.EditLaws.{sound-next, shallow-next}
 use Rattle.table_metadata.proofs.meta.next_tree.Goals as goal
 

@@ -2,7 +2,7 @@ use Rattle.std.proofs.Common.{◌≡◌, true, is_some, FitsSigned, w64}
 use Rattle.std.proofs.lemmas.Int.{to_z-of_z}
 use Rattle.serde_json.specs.View.{view}
 use Rattle.metadata_form.proofs.FormLaws.{fits_i64}
-use Rattle.metadata_links.proofs.SoundLaws.{sound, no_fault}
+use Rattle.metadata_view.proofs.SoundLaws.{sound, no_fault}
 use Rattle.table_metadata.proofs.EditLaws.{sound-with_ref, shallow-with_ref}
 use Rattle.table_metadata.proofs.meta.with_ref.Goals as goal
 

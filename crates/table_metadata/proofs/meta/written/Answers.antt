@@ -1,6 +1,6 @@
 use Rattle.std.proofs.Common.{◌∙◌}
 use Rattle.serde_json.specs.View.{view}
-use Rattle.metadata_links.proofs.SoundLaws.{sound}
+use Rattle.metadata_view.proofs.SoundLaws.{sound}
 use Rattle.table_metadata.proofs.meta.written.Goals as goal
 
 pub returns-clause-text : goal.returns-clause-text

@@ -4,7 +4,7 @@ use Rattle.serde_json.specs.View.{view}
 use Rattle.metadata_view.specs.View.{snapshots_of}
 use Rattle.metadata_view.specs.Walk.{walk, has_id}
 use Rattle.metadata_view.specs.declared.types.Snapshot.{Snapshot}
-use Rattle.metadata_links.proofs.SoundLaws.{sound}
+use Rattle.metadata_view.proofs.SoundLaws.{sound}
 use Rattle.metadata_view.proofs.WalkLaws.{is_walk, ancestor-if}
 use Rattle.table_metadata.proofs.meta.Meta.ancestor_of.Goals as goal
 

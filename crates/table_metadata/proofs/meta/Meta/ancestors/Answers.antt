@@ -4,7 +4,7 @@ use Rattle.serde_json.specs.View.{view}
 use Rattle.metadata_view.specs.View.{snapshots_of}
 use Rattle.metadata_view.specs.Walk.{IsWalk, walk}
 use Rattle.metadata_view.specs.declared.types.Snapshot.{Snapshot}
-use Rattle.metadata_links.proofs.SoundLaws.{sound}
+use Rattle.metadata_view.proofs.SoundLaws.{sound}
 use Rattle.metadata_view.proofs.WalkLaws.{is_walk}
 use Rattle.table_metadata.proofs.meta.Meta.ancestors.Goals as goal
 

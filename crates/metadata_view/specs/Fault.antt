@@ -6,7 +6,7 @@ use Rattle.metadata_form.specs.declared.fault.MetaCause.TheVariants.{DoubleId, B
 use Rattle.metadata_form.specs.declared.fault.Fault.{Fault}
 use Rattle.metadata_form.specs.Fault.{fault_at, form_fault}
 use Rattle.metadata_view.specs.View.{snapshots_of}
-use Rattle.metadata_links.specs.Links.{double_path, ref_fault, return_path}
+use Rattle.metadata_view.specs.Links.{double_path, ref_fault, return_path}
 use Rattle.metadata_view.specs.declared.types.Snapshot.{Snapshot}
 use Rattle.metadata_view.specs.Index.{first_double}
 use Rattle.metadata_view.specs.Walk.{first_return}

@@ -1,8 +1,8 @@
 use Rattle.std.proofs.Common.{◌≡◌, ◌%◌, map, arith, ap, ◌∙◌, sym}
-use Rattle.metadata_links.specs.Steps.{step_from, steps_from}
-use Rattle.metadata_links.proofs.StepLaws.{step_even, step_odd, steps-zero}
-use Rattle.metadata_links.proofs.steps.steps_of.Goals as goal
-use Rattle.metadata_links.proofs.steps.steps_of.Goals.{then-left-eq1+in_ok-places-2, else-left-eq1}
+use Rattle.metadata_view.specs.Steps.{step_from, steps_from}
+use Rattle.metadata_view.proofs.StepLaws.{step_even, step_odd, steps-zero}
+use Rattle.metadata_view.proofs.steps.steps_of.Goals as goal
+use Rattle.metadata_view.proofs.steps.steps_of.Goals.{then-left-eq1+in_ok-places-2, else-left-eq1}
 
 pub loop-left-preserved : goal.loop-left-preserved
 loop-left-preserved c =

@@ -1,6 +1,6 @@
 use Rattle.std.proofs.Common.{sym, ap}
-use Rattle.metadata_links.specs.Links.{first_broken}
-use Rattle.metadata_links.proofs.links.broken_in.Goals as goal
+use Rattle.metadata_view.specs.Links.{first_broken}
+use Rattle.metadata_view.proofs.links.broken_in.Goals as goal
 
 pub returns-in-None : goal.returns-in-None
 unfolding first_broken

@@ -5,14 +5,16 @@ ghost use Rattle.metadata_json.specs.Fields.{members_at};
 ghost use Rattle.metadata_form.specs.Fault.{fault_at};
 ghost use Rattle.metadata_form.specs.declared.fault.MetaCause.TheVariants.{DoubleId};
 ghost use Rattle.metadata_view.specs.Index.{IsIndex};
-ghost use Rattle.metadata_links.specs.Fault.{links_fault};
-ghost use Rattle.metadata_links.specs.Links.{snapshot_path, double_path, is_main, main_agrees, current_fault, is_whole_ref, first_broken, refs_fault, ref_fault, return_path};
+ghost use Rattle.metadata_view.specs.Fault.{links_fault};
+ghost use Rattle.metadata_view.specs.Links.{snapshot_path, double_path, is_main, main_agrees, current_fault, is_whole_ref, first_broken, refs_fault, ref_fault, return_path};
 
+use crate::index::{Index, has};
 use crate::steps::first_return;
+use crate::typed::{current, main_ref};
+use crate::types::Snapshot;
 use ice_store::Text;
 use metadata_form::{Fault, MetaCause, fault_at, in_item, in_member};
 use metadata_json::{members, signed_or_zero};
-use metadata_view::{Index, Snapshot, current, has, main_ref};
 use serde_json::{Map, Value};
 use std::alloc::{AllocError, Global};
 

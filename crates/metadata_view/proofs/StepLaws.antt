@@ -1,7 +1,7 @@
 -- Laws of steps from place to place.
 use Rattle.std.proofs.Common.{◌≡◌, ℕ, zero, suc, ℤ, ◌+◌, ◌/◌, ◌%◌, List, [], ◌∷◌, length, map, get_or, Bool, true, false, Option, Some, None, is_some, option_map, cond, refl, sym, ap, ◌∙◌, arith}
 use Rattle.std.specs.Ordering.{int_eq}
-use Rattle.metadata_links.specs.Steps.{step_from, steps_from, parents_among, first_some}
+use Rattle.metadata_view.specs.Steps.{step_from, steps_from, parents_among, first_some}
 use Rattle.metadata_view.specs.Walk.{snapshot_with, next_snapshot, place_with, goes_on, goes_on_step, comes_back, place_of, first_return}
 use Rattle.metadata_view.specs.declared.types.Snapshot.{Snapshot}
 

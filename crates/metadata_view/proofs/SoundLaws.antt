@@ -22,8 +22,8 @@ use Rattle.metadata_form.specs.Fields.{field, field_fault, rule_fault, rules_fau
 use Rattle.metadata_form.specs.Fault.{fault_at, other_version, version_fault, list_fault, lists_fault, form_fault}
 use Rattle.metadata_view.specs.declared.types.Snapshot.{Snapshot}
 use Rattle.metadata_view.specs.View.{snapshots_of}
-use Rattle.metadata_links.specs.Links.{double_path, ref_fault, return_path}
-use Rattle.metadata_links.specs.Fault.{links_fault, snapshots_fault, fault_of}
+use Rattle.metadata_view.specs.Links.{double_path, ref_fault, return_path}
+use Rattle.metadata_view.specs.Fault.{links_fault, snapshots_fault, fault_of}
 use Rattle.metadata_form.proofs.FormLaws.{no-parts, no-both, no-within, no-unless, whole-if, or-false, required-found, first-rule, rules-drop}
 use Rattle.metadata_view.specs.Index.{first_double}
 use Rattle.metadata_view.specs.Walk.{first_return}

@@ -1,7 +1,7 @@
 use Rattle.std.proofs.Common.{map, length, ap, ◌∙◌}
-use Rattle.metadata_links.specs.Steps.{steps_from, first_some}
-use Rattle.metadata_links.proofs.StepLaws.{first_return-steps}
-use Rattle.metadata_links.proofs.steps.first_return.Goals as goal
+use Rattle.metadata_view.specs.Steps.{steps_from, first_some}
+use Rattle.metadata_view.proofs.StepLaws.{first_return-steps}
+use Rattle.metadata_view.proofs.steps.first_return.Goals as goal
 
 pub returns : goal.returns
 returns c =

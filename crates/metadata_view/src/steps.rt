@@ -2,10 +2,11 @@
 //! of two steps comes from that of one, the table of four from that of two, and so on.
 ghost use Rattle.std.specs.Prelude.{◌≡◌, map, length, IfOk};
 ghost use Rattle.metadata_view.specs.Index.{IsIndex};
-ghost use Rattle.metadata_links.specs.Steps.{step_from, steps_from, parents_among, first_some};
+ghost use Rattle.metadata_view.specs.Steps.{step_from, steps_from, parents_among, first_some};
 ghost use Rattle.metadata_view.specs.Walk.{first_return};
 
-use metadata_view::{Index, Snapshot, place_of};
+use crate::index::{Index, place_of};
+use crate::types::Snapshot;
 use std::alloc::{AllocError, Global};
 
 fn step_from(steps: &[Option<usize>], from: Option<usize>) -> Option<usize>

@@ -1,3 +1,0 @@
-pub mod Fault
-pub mod Links
-pub mod Steps
