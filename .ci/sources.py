@@ -100,16 +100,19 @@ def clauses_of(text, blank, at):
 
 
 def exports_of(folder):
-    """What the crate's root exports: each module's names, by the names that they have in it."""
+    """What the crate's root exports of each module: the name that it has there, and the one that others see."""
     root = folder / "src/lib.rt"
     if not root.exists():
         return {}
     text = masked(root.read_text())
-    modules = {module: set() for module in re.findall(r"^\s*(?:pub )?mod (\w+)\s*;", text, re.M)}
+    modules = {module: {} for module in re.findall(r"^\s*(?:pub )?mod (\w+)\s*;", text, re.M)}
     for path, names, single in re.findall(r"^pub use (?:crate::)?(\w+(?:::\w+)*?)::(?:\{([^}]*)\}|(\w+(?: as \w+)?));", text, re.M):
-        module = path.split("::")[-1]
-        if path.split("::")[0] in modules:
-            modules.setdefault(module, set()).update(name.split(" as ")[0].strip() for name in (names or single).split(","))
+        parts = path.split("::")
+        if parts[0] not in modules:
+            continue
+        for name in filter(None, (name.strip() for name in (names or single).split(","))):
+            own, _, seen = name.partition(" as ")
+            modules.setdefault(parts[-1], {})[own] = seen or own
     return modules
 
 
@@ -128,7 +131,7 @@ def functions_of(folder):
         text = file.read_text()
         blank = masked(text)
         module = list(file.relative_to(folder / "src").with_suffix("").parts)
-        exported = exports.get(module[-1], set())
+        exported = exports.get(module[-1], {})
         blocks = [(found.start(), behind(blank, found.end() - 1, "{", "}"), found["word"], found["head"]) for found in BLOCK.finditer(blank)]
         for found in FUNCTION.finditer(blank):
             at = found.end()
@@ -146,7 +149,7 @@ def functions_of(folder):
                 is_public = (is_root or owner in exported) and (is_open or word == "trait" or bool(of_trait and clauses))
             else:
                 is_public = is_open and (is_root or found["name"] in exported)
-            name = f"{owner}::{found['name']}" if owner else found["name"]
+            name = f"{exported.get(owner, owner)}::{found['name']}" if owner else exported.get(found["name"], found["name"])
             functions.append(Function(folder.name, file, line_at(text, found.start("name")), name, is_public and not is_test,
                                       is_test, max(line_at(text, end) - line_at(text, at) - 1, 0), clauses))
     return functions
