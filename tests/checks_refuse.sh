@@ -56,6 +56,7 @@ faults = [
     ("docs/PROMISES.md", row + "| `told_law` | | `second` | |\n", "no clause ensures second"),
     ("docs/PROMISES.md", "", "a clause ensures first, which isn't told"),
     ("docs/PROMISES.md", "| `no_call` | | `first` | |\n", "no public call no_call"),
+    ("docs/PROMISES.md", "\n| Clause of `told_law` | What it says |\n|---|---|\n| `third` | |\n", "have no clause third"),
     ("crates/stray/src/lib.rt", "mod nothing;\n", None),
     ("crates.txt", "", "stray is missing"),
     ("crates/odd_one/src/lib.rt", "mod nothing;\n", None),
