@@ -57,6 +57,7 @@ faults = [
     ("docs/PROMISES.md", "", "a clause ensures first, which isn't told"),
     ("docs/PROMISES.md", "| `no_call` | | `first` | |\n", "no public call no_call"),
     ("docs/PROMISES.md", "\n| Clause of `told_law` | What it says |\n|---|---|\n| `third` | |\n", "have no clause third"),
+    ("docs/PROMISES.md", "\n## What is only tested\n\n`no_test` (`ice_store`)\n\n## Last\n", "ice_store has no test no_test"),
     ("crates/stray/src/lib.rt", "mod nothing;\n", None),
     ("crates.txt", "", "stray is missing"),
     ("crates/odd_one/src/lib.rt", "mod nothing;\n", None),
