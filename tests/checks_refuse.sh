@@ -52,6 +52,7 @@ faults = [
     (f"{STORE}/src/lib.rt", "", "a_law has no row"),
     ("docs/DEFINITIONS.md", "\n| `imagined` | nothing | `ice_store/specs/Places` |\n", "has no definition imagined"),
     ("docs/DEFINITIONS.md", "\nIt stands in `ice_store/specs/Nowhere`.\n", "there is no file ice_store/specs/Nowhere"),
+    ("docs/DEFINITIONS.md", "\n**Nothing** (`Invented`). It stands nowhere.\n", "there is no Invented"),
     (f"{STORE}/src/lib.rt", function("told_law", "    ensures first { 0 ≡ 0 }\n", public="pub "), None),
     ("docs/PROMISES.md", row + "| `told_law` | | `second` | |\n", "no clause ensures second"),
     ("docs/PROMISES.md", "", "a clause ensures first, which isn't told"),
