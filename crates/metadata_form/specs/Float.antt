@@ -5,8 +5,8 @@ use Rattle.serde_json.specs.Data.{Data, null, boolean, number, string, array, ob
 use Rattle.serde_json.specs.Find.{is_float}
 use Rattle.metadata_form.specs.Path.{in_member, in_item, itself_unless}
 
--- where the first number of a value stands that is no whole number of 64 bits
 abbrev mutual
+  -- where the first number of a value stands that is no whole number of 64 bits
   pub first_float : Data → Option (List ℕ)
   first_float null = None
   first_float (boolean b) = None
