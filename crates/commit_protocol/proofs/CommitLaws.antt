@@ -10,7 +10,7 @@ use Rattle.ice_store.specs.declared.history.Past.{Past}
 use Rattle.ice_store.specs.declared.history.Step.{Step}
 use Rattle.ice_store.specs.declared.faults.ReadErr.TheVariants.{Missing, Damaged, Unsupported, StoreFault, Memory}
 use Rattle.table_metadata.specs.Edits.{HasVersionLimit, next_version, kept_versions, version_limit}
-use Rattle.table_metadata.specs.View.{location_of}
+use Rattle.metadata_view.specs.View.{location_of}
 use Rattle.table_metadata.proofs.EditLaws.{stays-next}
 use Rattle.commit_history.specs.Mannered.{IsMannered}
 use Rattle.commit_history.specs.Readings.{rules_of}

@@ -6,7 +6,7 @@ ghost use Rattle.ice_store.specs.Places.{Parts, place_in};
 ghost use Rattle.ice_store.specs.Since.{Since};
 ghost use Rattle.serde_json.specs.View.{view};
 ghost use Rattle.table_metadata.specs.Edits.{HasVersionLimit};
-ghost use Rattle.table_metadata.specs.View.{location_of};
+ghost use Rattle.metadata_view.specs.View.{location_of};
 ghost use Rattle.commit_history.specs.Mannered.{IsMannered};
 ghost use Rattle.commit_history.specs.Versions.{number_in};
 ghost use Rattle.commit_publish.specs.Leaves.{Halts};
