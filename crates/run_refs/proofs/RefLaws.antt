@@ -18,7 +18,7 @@ use Rattle.metadata_view.specs.Links.{is_main, main_agrees, current_fault, is_wh
 use Rattle.metadata_view.specs.View.{ref_of, ref_with, refs_in, refs_of, refs_tree, with_main, main_ref, new_branch, snapshots_of, current_of}
 use Rattle.metadata_view.specs.Walk.{snapshot_with}
 use Rattle.metadata_view.specs.declared.types.Snapshot.{Snapshot}
-use Rattle.table_metadata.proofs.FormLaws.{no-parts, no-within}
+use Rattle.metadata_form.proofs.FormLaws.{no-parts, no-within}
 use Rattle.metadata_view.proofs.SoundLaws.{sound}
 use Rattle.run_refs.specs.Refs.{ref_at, id_of}
 use Rattle.run_refs.specs.Laws.{HasLongCurrent}
