@@ -5,9 +5,7 @@ ghost use Rattle.metadata_json.specs.Edits.{set};
 ghost use Rattle.serde_json.specs.View.{view};
 ghost use Rattle.table_metadata.specs.Edits.{moved_ref, with_moved_ref, snapshot_log_item, with_current, moment_of, with_ref, metadata_log_item, with_previous, next_keeping};
 
-use metadata_json::{
-    Taken, add, add_within, object_or_empty, set, take, unsigned_or_zero,
-};
+use metadata_json::{Taken, add, add_within, object_or_empty, set, take, unsigned_or_zero};
 use metadata_view::new_branch;
 use serde_json::{Value, json};
 use std::alloc::{AllocError, Global};

@@ -170,6 +170,12 @@ fn written(alloc: Global, tree: &Value) -> Result<Bytes, AllocError>
     Ok(Bytes::new(tree.to_vec(alloc)?))
 }
 
+fn copied(tree: &Value) -> Result<Value, AllocError>
+    ensures { IfOk result (λ v. view v ≡ view tree.now) }
+{
+    tree.clone()
+}
+
 // The metadata with a ref, of the tree of well-formed metadata.
 fn with_ref(alloc: Global, tree: Value, name: &Text, id: i64, ms: u64) -> Result<Meta, AllocError>
     requires sound { fault_of (view tree) ≡ None }
@@ -336,7 +342,8 @@ impl Meta {
         if !has(&self.index, self.typed.snapshots.inner(), id) {
             return Err(EditErr::UnknownSnapshot { id });
         }
-        Ok(with_ref(alloc, self.tree.clone()?, name, id, ms)?)
+        let copy = copied(&self.tree)?;
+        Ok(with_ref(alloc, copy, name, id, ms)?)
     }
 
     /// The same metadata with the ref, as `with_ref` says, without a copy.
@@ -400,7 +407,8 @@ impl Meta {
             → key ≢ codes "metadata-log" → get key (view m) ≡ get key (view self.now)) }
     {
         let most = self.kept_versions();
-        let tree = next_tree(alloc, self.tree.clone()?, previous, ms, most)?;
+        let copy = copied(&self.tree)?;
+        let tree = next_tree(alloc, copy, previous, ms, most)?;
         meta_of(alloc, tree)
     }
 
