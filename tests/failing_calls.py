@@ -58,6 +58,7 @@ UNLOCK = 8
 NONBLOCK = 1
 STDOUT, STDERR = 1, 2
 DRAFT = tables.DRAFT.pattern
+STATUSES = tables.statuses()
 NOBODY = 65534
 
 
@@ -83,6 +84,19 @@ class Wrong(Exception):
 def want(fact, words):
     if not fact:
         raise Wrong(words)
+
+
+def message(status, **values):
+    """The line that docs/STATUSES.md has for a status, with these values in place of its capital words; as a pattern."""
+    line = re.escape(STATUSES[status][1])
+    for word, value in values.items():
+        want(word in line, f"the message of {status} in docs/STATUSES.md has no {word}")
+        line = line.replace(word, str(value))
+    return f"upkeep: {line}\n"
+
+
+def number_of(status):
+    return STATUSES[status][0]
 
 
 # ---- what stands after each status
@@ -122,14 +136,14 @@ def check_ended(ended, good):
     now = FIRST + done
     table = re.escape(str(ended.table))
     messages = {
-        0: "",
-        5: f"upkeep: store failed at {table}(/metadata(/v{now}[.]metadata[.]json|/{DRAFT})?)?\n",
-        6: f"upkeep: commit of version {now + 1} is unknown\n",
-        7: "upkeep: output failed\n",
-        8: "upkeep: out of memory\n",
-        11: "",
-        -signal.SIGKILL: "",
+        "StoreFault": {"PLACE": f"{table}(/metadata(/v{now}[.]metadata[.]json|/{DRAFT})?)?"},
+        "CommitUnknown": {"N": now + 1},
+        "OutFault": {},
+        "OutOfMemory": {},
     }
+    messages = {number_of(name): message(name, **values) for name, values in messages.items()}
+    # Done, a random source that fails, and a program that was killed say nothing
+    messages.update({0: "", 11: "", -signal.SIGKILL: ""})
     lasts = {0: {FIRST + len(REPORTS)}, 5: {now}, 6: {now, now + 1}, 7: {now, now + 1}, 11: {FIRST}}
     want(status in messages, f"no run may end so here")
     want(re.fullmatch(messages[status], ended.err), "the message is another one")
@@ -204,7 +218,7 @@ def undisturbed(program, work):
     """The calls of a run that nothing disturbs, and what its versions say."""
     table, calls = tables.make_table(work / "undisturbed"), []
     ended = traced(program, table, after=calls.append)
-    ends(ended, 0, "", "".join(REPORTS))
+    ends(ended, 0, "".join(REPORTS))
     want(not ended.drafts, "a draft is left")
     found = tables.versions_of(ended.after)
     heads = {number: json.loads(data)["current-snapshot-id"] for number, data in found.items()}
@@ -291,13 +305,13 @@ def raced(job):
             found = tables.versions_of(ended.after)
             for number, data in theirs.items():
                 want(found.get(number) == data, f"the other program's version {number} was lost")
-            want(ended.status in (0, 4), "the status is to be 0 or 4")
+            want(ended.status in (0, number_of("Contended")), "the status is to be 0 or Contended")
             want(not ended.drafts, "a draft is left")
             want(all(tables.without_moments(data, table) for data in found.values()), "a version isn't whole")
             done = finished_of(ended, False)
             want(max(found) == FIRST + done + len(theirs), f"the versions are {sorted(found)}")
-            if ended.status == 4:
-                want(ended.err == f"upkeep: lost the race up to version {max(found)}\n", "the message is another one")
+            if ended.status != 0:
+                want(re.fullmatch(message("Contended", N=max(found)), ended.err), "the message is another one")
             else:
                 want(ended.err == "" and done == len(REPORTS), "it isn't done")
             return ended.status, None
@@ -390,22 +404,24 @@ def is_unchanged(ended, left=0):
     want(len(ended.drafts) <= left and ended.new_names() == set(ended.drafts), "there are new names")
 
 
-def ends(ended, status, message, out=""):
-    want(ended.status == status, f"the status is to be {status}")
-    want(ended.err == message, f"the message is to be {message!r}")
+def ends(ended, status, out="", **values):
+    """The run ended with a status of docs/STATUSES.md, or with the number of one that says nothing."""
+    number, line = (number_of(status), message(status, **values)) if status in STATUSES else (status, "")
+    want(ended.status == number, f"the status is to be {status}")
+    want(re.fullmatch(line, ended.err), f"the message is to be {line!r}")
     want(ended.out == out, f"{out!r} is to be printed")
 
 
 def word_that_is_not_text(program, table, good):
     ended = plain(program, table, words=[b"CALL c.system.ancestors_of('/\xff')"])
-    ends(ended, 10, "")
+    ends(ended, 10)
     is_unchanged(ended)
 
 
 def name_that_is_not_text(program, table, good):
     os.close(os.open(os.fsencode(table) + b"/metadata/\xff.avro", os.O_CREAT | os.O_WRONLY))
     ended = plain(program, table)
-    ends(ended, 5, f"upkeep: store failed at {table}/metadata\n")
+    ends(ended, "StoreFault", PLACE=re.escape(f"{table}/metadata"))
     is_unchanged(ended)
 
 
@@ -413,7 +429,7 @@ def held_lock(program, table, good):
     with open(table / "metadata" / tables.LOCK, "wb") as lock:
         fcntl.flock(lock, fcntl.LOCK_EX)
         ended = plain(program, table)
-    ends(ended, 6, "upkeep: commit of version 4 is unknown\n")
+    ends(ended, "CommitUnknown", N=4)
     is_unchanged(ended, left=1)
     want(len(ended.drafts) == 1, "the new metadata file stands under neither name")
 
@@ -421,7 +437,7 @@ def held_lock(program, table, good):
 def folder_is_of_mode(mode):
     def scene(program, table, good):
         ended = plain(program, table, modes={table / "metadata": mode})
-        ends(ended, 5, f"upkeep: store failed at {table}/metadata\n")
+        ends(ended, "StoreFault", PLACE=re.escape(f"{table}/metadata"))
         is_unchanged(ended)
     return scene
 
@@ -429,16 +445,15 @@ def folder_is_of_mode(mode):
 def file_that_may_not_be_read(program, table, good):
     file = table / "metadata/v3.metadata.json"
     ended = plain(program, table, modes={file: 0})
-    ends(ended, 5, f"upkeep: store failed at {file}\n")
+    ends(ended, "StoreFault", PLACE=re.escape(str(file)))
     is_unchanged(ended)
 
 
 def folder_that_may_not_be_written(program, table, good):
     modes = {table / "metadata": 0o555}
-    ends(plain(program, table, ["CALL c.system.ancestors_of('{T}')"], modes=modes), 0, "", LISTED[3])
+    ends(plain(program, table, ["CALL c.system.ancestors_of('{T}')"], modes=modes), 0, LISTED[3])
     ended = plain(program, table, modes=modes)
-    message = f"upkeep: store failed at {re.escape(str(table))}/metadata/{DRAFT}\n"
-    want(ended.status == 5 and re.fullmatch(message, ended.err), "the new file is to be told with status 5")
+    ends(ended, "StoreFault", PLACE=f"{re.escape(str(table))}/metadata/{DRAFT}")
     is_unchanged(ended)
 
 
@@ -447,7 +462,7 @@ def next_version_is(make):
     def scene(program, table, good):
         make(table / "metadata/v4.metadata.json")
         ended = plain(program, table)
-        ends(ended, 6, "upkeep: commit of version 4 is unknown\n")
+        ends(ended, "CommitUnknown", N=4)
         is_unchanged(ended, left=1)
         want(len(ended.drafts) == 1, "the new metadata file stands under neither name")
     return scene
@@ -458,14 +473,14 @@ def last_version_is_a_link(program, table, good):
     os.rename(folder / "v3.metadata.json", table / "elsewhere.json")
     os.symlink("../elsewhere.json", folder / "v3.metadata.json")
     ended = plain(program, table)
-    ends(ended, 2, f"upkeep: no table at {table}\n")
+    ends(ended, "NoTable", PLACE=re.escape(str(table)))
     is_unchanged(ended)
 
 
 def lock_is_a_link(program, table, good):
     os.symlink(table / "made-by-a-link", table / "metadata" / tables.LOCK)
     ended = plain(program, table)
-    ends(ended, 6, "upkeep: commit of version 4 is unknown\n")
+    ends(ended, "CommitUnknown", N=4)
     is_unchanged(ended, left=1)
 
 
@@ -481,7 +496,8 @@ def output_is(open_stream):
     def scene(program, table, good):
         with open_stream() as stream:
             ended = plain(program, table, stdout=stream)
-        want(ended.status == 7 and ended.err == "upkeep: output failed\n", "the status is to be 7")
+        want(ended.status == number_of("OutFault"), "the status is to be OutFault")
+        want(re.fullmatch(message("OutFault"), ended.err), "the message is another one")
         want(check_versions(ended, good) == 4 and not ended.drafts, "version 4 is to be there alone")
     return scene
 
@@ -511,8 +527,9 @@ def error_stream_fails(what):
         disturb = lambda call: what if call.name == "write" and call.args[0] == STDERR else None
         status, out, err = tracer.run([program, *words], before=disturb)
         ended = Ended(status, out, err, files, table)
-        want(status == 1, "the status is to be 1")
-        want(out == b"" and b"upkeep: unknown snapshot 99\n".startswith(err), "something else was printed")
+        want(status == number_of("UnknownSnapshot"), "the status is to be UnknownSnapshot")
+        line = "upkeep: " + STATUSES["UnknownSnapshot"][1].replace("ID", "99") + "\n"
+        want(out == b"" and line.encode().startswith(err), "something else was printed")
         is_unchanged(ended)
     return scene
 
@@ -534,10 +551,10 @@ def full_file_system(program, table, good):
     ended = plain(program, folder)
     want(ended.status == 5, "on a read-only file system the status is to be 5")
     is_unchanged(ended)
-    ends(plain(program, folder, ["CALL c.system.ancestors_of('{T}')"]), 0, "", LISTED[3])
+    ends(plain(program, folder, ["CALL c.system.ancestors_of('{T}')"]), 0, LISTED[3])
     subprocess.run(["mount", "-o", "remount,bind,rw", str(room)], check=True)
     ended = plain(program, folder)
-    ends(ended, 0, "", "".join(REPORTS))
+    ends(ended, 0, "".join(REPORTS))
     want(tables.last_version(ended.after) == 5, "the last version is to be 5")
 
 
