@@ -21,6 +21,7 @@ import multiprocessing
 import os
 import pathlib
 import re
+import resource
 import shutil
 import signal
 import stat
@@ -60,14 +61,18 @@ STDOUT, STDERR = 1, 2
 DRAFT = tables.DRAFT.pattern
 STATUSES = tables.statuses()
 NOBODY = 65534
+LOADER_FAILED = 127
 
 
 class Ended:
     """How a run on a table ended, and what it left there."""
 
+    last = None
+
     def __init__(self, status, out, err, before, table):
         self.status, self.out, self.err = status, out.decode(errors="replace"), err.decode(errors="replace")
         self.before, self.after, self.table = before, tables.files_of(table), table
+        Ended.last = self
         self.drafts = sorted(name for name in self.new_names() if tables.DRAFT.fullmatch(name[len("metadata/"):]))
 
     def new_names(self):
@@ -142,8 +147,11 @@ def check_ended(ended, good):
         "OutOfMemory": {},
     }
     messages = {number_of(name): message(name, **values) for name, values in messages.items()}
-    # Done, a random source that fails, and a program that was killed say nothing
+    # Done, and a program that was killed, say nothing; neither does one whose run hasn't begun
     messages.update({0: "", 11: "", -signal.SIGKILL: ""})
+    is_unbegun = status == 11 or (status == number_of("OutOfMemory") and ended.err == "")
+    if is_unbegun:
+        messages[status] = ""
     lasts = {0: {FIRST + len(REPORTS)}, 5: {now}, 6: {now, now + 1}, 7: {now, now + 1}, 11: {FIRST}}
     want(status in messages, f"no run may end so here")
     want(re.fullmatch(messages[status], ended.err), "the message is another one")
@@ -152,7 +160,7 @@ def check_ended(ended, good):
     want(len(ended.drafts) <= left, "more files are left than the status allows")
     if status == 6:
         want(len(ended.drafts) == left, "the new metadata file stands under neither name")
-    if status == 11:
+    if is_unbegun:
         want(ended.out == "" and not ended.new_names(), "something was done")
     return last
 
@@ -377,12 +385,15 @@ def work_on(job):
 # ---- tables and streams in which calls fail by themselves
 
 
-def plain(program, table, calls=CALLS, words=None, modes=None, **how):
-    """A run that isn't followed. With `modes`, of paths, it is that of a user whom these bind."""
+def plain(program, table, calls=CALLS, words=None, modes=None, memory=None, **how):
+    """A run that isn't followed. With `modes`, of paths, it is that of a user whom these bind; with `memory` it has no
+    more bytes than that."""
     files = tables.files_of(table)
     kept = {path: stat.S_IMODE(path.stat().st_mode) for path in modes or {}}
 
     def become():
+        if memory is not None:
+            resource.setrlimit(resource.RLIMIT_AS, (memory, memory))
         if modes and os.getuid() == 0:
             os.setgroups([])
             os.setgid(NOBODY)
@@ -534,6 +545,26 @@ def error_stream_fails(what):
     return scene
 
 
+def memory_lacks(program, table, good):
+    """With more and more memory, up to enough, over metadata of 300,000 bytes."""
+    properties = {"padding": "x" * 300_000}
+    good = {number: {**tree, "properties": properties} for number, tree in good.items()}
+    for memory in range(2 << 20, 64 << 20, 1 << 18):
+        shutil.rmtree(table)
+        file = tables.make_table(table) / "metadata/v3.metadata.json"
+        file.write_text(json.dumps({**json.loads(file.read_text()), "properties": properties}))
+        ended = plain(program, table, memory=memory)
+        # the loader may lack it as well
+        want(ended.status in (0, LOADER_FAILED, number_of("OutOfMemory")), "the status is to be OutOfMemory or 0")
+        if ended.status == LOADER_FAILED:
+            is_unchanged(ended)
+            continue
+        check_opens(program, ended, check_ended(ended, good))
+        if ended.status == 0:
+            return
+    raise Wrong("no run had enough of it")
+
+
 def full_file_system(program, table, good):
     """Run where a small file system is mounted: it is full, then short of a part of the file, then read-only, then free."""
     room, folder = table, table / "t"
@@ -576,6 +607,7 @@ SCENES = {
     "the output is a full device": output_is(lambda: open("/dev/full", "wb")),
     "the output is a pipe that nobody reads": output_is(closed_pipe),
     "the streams are closed": streams_are_closed,
+    "memory lacks": memory_lacks,
     "the error stream fails": error_stream_fails(tracer.fail(errno.EIO)),
     "the error stream takes one byte at a time": error_stream_fails(tracer.cut(1)),
 }
@@ -588,7 +620,7 @@ def try_scenes(program, work, good):
         try:
             scene(program, table, good)
         except Wrong as e:
-            complaints.append(f"where {name}: {e}")
+            complaints.append(f"where {name}: {e}\n    {Ended.last.told() if Ended.last else ''}")
     print(f"tables and streams in which calls fail by themselves: {len(SCENES)}")
     return complaints
 
