@@ -242,8 +242,13 @@ def ways_of(call):
     """Each way in which this call is disturbed: its name, what is done, and the error that it tells of."""
     if call.name in MEMORY:
         return [("fails with ENOMEM", tracer.fail(errno.ENOMEM), errno.ENOMEM), ("is never made", tracer.KILL, None)]
-    ways = [(f"fails with {errno.errorcode[number]}", tracer.fail(number), number) for number in ERRORS]
-    ways.append(("is made and then fails with EIO", tracer.say_failed(errno.EIO), errno.EIO))
+    names = {number: errno.errorcode[number] for number in ERRORS}
+    if call.name == "close":
+        # Linux closes the descriptor in any case
+        ways = [(f"closes and fails with {names[number]}", tracer.say_failed(number), number) for number in ERRORS]
+    else:
+        ways = [(f"fails with {names[number]}", tracer.fail(number), number) for number in ERRORS]
+        ways.append(("is made and then fails with EIO", tracer.say_failed(errno.EIO), errno.EIO))
     ways.append(("is never made", tracer.KILL, None))
     if call.name in (READS | WRITES) - {"getdents64"} and call.args[2] > 1:
         ways.append(("takes half of its bytes", tracer.cut(call.args[2] // 2), None))
@@ -499,7 +504,7 @@ def folder_is_a_link(program, table, good):
     os.rename(table / "metadata", table / "elsewhere")
     os.symlink("elsewhere", table / "metadata")
     ended = plain(program, table)
-    want(ended.status in (2, 5) and ended.out == "", "the status is to be 2 or 5")
+    ends(ended, "StoreFault", PLACE=re.escape(f"{table}/metadata"))
     is_unchanged(ended)
 
 
