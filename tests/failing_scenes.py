@@ -191,6 +191,26 @@ def error_stream_fails(what):
     return scene
 
 
+def late_error(program, table, good):
+    """The bytes of a file can't be written back. The system keeps that error for the descriptors that are open then, and
+    a sync through one of them tells it; one through a descriptor that is opened later says that all is well."""
+    files, written = tables.files_of(table), set()
+
+    def disturb(call):
+        if call.name in ("write", "pwrite64") and call.args[0] > STDERR:
+            written.add(call.args[0])
+        elif call.name == "close":
+            written.discard(call.args[0])
+        elif call.name in ("fsync", "fdatasync") and call.args[0] in written:
+            return tracer.say_failed(errno.EIO)
+        return None
+
+    status, out, err = tracer.run([program, *tables.statements(table, CALLS)], before=disturb)
+    ended = Ended(status, out, err, files, table)
+    ends(ended, "StoreFault", PLACE=f"{re.escape(str(table))}/metadata/{DRAFT}")
+    is_unchanged(ended, left=1)
+
+
 def memory_lacks(program, table, good):
     """With more and more memory, up to enough, over metadata of 300,000 bytes."""
     properties = {"padding": "x" * 300_000}
@@ -263,6 +283,7 @@ SCENES = {
     "the output is a full device": output_is(lambda: open("/dev/full", "wb")),
     "the output is a pipe that nobody reads": output_is(closed_pipe),
     "the streams are closed": streams_are_closed,
+    "bytes can't be written back": late_error,
     "memory lacks": memory_lacks,
     "the error stream fails": error_stream_fails(tracer.fail(errno.EIO)),
     "the error stream takes one byte at a time": error_stream_fails(tracer.cut(1)),
