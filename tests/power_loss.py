@@ -19,6 +19,7 @@ Each STATEMENT has {T} where the place of the table goes, which is data/three_sn
 run. It ends with 1 where something is wrong.
 """
 import argparse
+import errno
 import fcntl
 import hashlib
 import itertools
@@ -307,7 +308,8 @@ def fault_of_opening(program, table, state, chain):
 
 
 class Run:
-    """A list of statements, what is done to the table before, and what another program does meanwhile."""
+    """A list of statements, the status that they end with, what is done to the table before, and what is done before each
+    system call."""
 
     def __init__(self, name, statements, status=None, prepare=None, meanwhile=None):
         self.name, self.statements, self.status = name, statements, status
@@ -328,7 +330,7 @@ def raced(recorder, call):
     lock = pathlib.Path(recorder.disk.top, "metadata", tables.LOCK)
     place = lock.with_name("v4.metadata.json")
     if call.name != "flock" or place.exists():
-        return
+        return None
     with open(lock, "ab") as file:
         fcntl.flock(file, fcntl.LOCK_EX)
         data = lock.with_name("v3.metadata.json").read_bytes()
@@ -338,6 +340,17 @@ def raced(recorder, call):
     # a sync of the folder by another program is one of all its names
     disk.sync(os.path.dirname(place)) if "folders" not in disk.without else None
     recorder.note_version(str(place))
+    return None
+
+
+def last_sync_fails(recorder, call):
+    """No sync behind the rename is made."""
+    return tracer.fail(errno.EIO) if call.name in SYNCS and 4 in recorder.versions else None
+
+
+def few_bytes(recorder, call):
+    """Each write takes 1,000 bytes at most."""
+    return tracer.cut(min(call.args[2], 1000)) if call.name == "write" else None
 
 
 BACK = ["CALL c.system.rollback_to_snapshot('{T}', 22)", "CALL c.system.rollback_to_snapshot('{T}', 11)"]
@@ -355,6 +368,8 @@ RUNS = [
     Run("a rollback, and one that is refused", [BACK[0], "CALL c.system.rollback_to_snapshot('{T}', 33)"], status=1),
     Run("behind a program that was killed at its rename", BACK, status=0, prepare=killed_before),
     Run("a race that is lost", BACK[:1], status=4, meanwhile=raced),
+    Run("a rollback whose last sync fails", BACK[:1], status=6, meanwhile=last_sync_fails),
+    Run("a rollback by small writes", BACK[:1], status=0, meanwhile=few_bytes),
 ]
 
 
@@ -379,9 +394,9 @@ def record(program, table, run, without):
     recorder.cut()
 
     def before(call):
-        if run.meanwhile is not None:
-            run.meanwhile(recorder, call)
+        what = run.meanwhile(recorder, call) if run.meanwhile is not None else None
         recorder.before(call)
+        return what
 
     words = tables.statements(table, run.statements)
     status, _, err = tracer.run([program, *words], before=before, after=recorder.after)
