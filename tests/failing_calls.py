@@ -121,9 +121,18 @@ def undisturbed(program, work):
     want(heads == CURRENT, f"the versions have the current snapshots {heads}")
     good = {number: tables.without_moments(data, table) for number, data in found.items()}
     shutil.rmtree(table)
-    for call in calls:
-        del call.pid
+    check_syncs(calls)
     return calls, good
+
+
+def check_syncs(calls):
+    """Something is synced between the bytes and the rename of a version, and between its rename and its report."""
+    for rename in (it.index for it in calls if it.name in RENAMES):
+        report = next(it.index for it in calls if it.name in WRITES and it.args[0] == STDOUT and it.index > rename)
+        written = max(it.index for it in calls if it.name in WRITES and it.args[0] != STDOUT and it.index < rename)
+        synced = [it.index for it in calls if it.name in SYNCS]
+        want(any(written < it < rename for it in synced), "a version is renamed without a sync of its bytes")
+        want(any(rename < it < report for it in synced), "a version is reported without a sync of its name")
 
 
 def ways_of(call):
@@ -257,6 +266,8 @@ def linked(job):
 def disturb_all(program, work, calls, good):
     """Every call in every way. Answers the complaints."""
     # the last call is the program's end, which can't fail
+    for call in calls:
+        del call.pid
     jobs = [(disturbed, (program, work, calls, good, it.index, way)) for it in calls[:-1] for way in ways_of(it)]
     jobs += [(what, (program, work, calls, good, it.index, None)) for what in (raced, linked) for it in calls]
     with multiprocessing.Pool(min(8, os.cpu_count() or 1)) as pool:

@@ -63,8 +63,12 @@ class NoRule(Exception):
     """The disk's rules don't tell of this call."""
 
 
+class Link(str):
+    """What a symbolic link names."""
+
+
 class File:
-    """A file, or a folder where `data` is None: what it has now, and whether all of that is durable."""
+    """A file, or a folder where `data` is None, or a link: what it has now, and whether all of that is durable."""
 
     def __init__(self, data, is_durable):
         self.data, self.is_durable = data, is_durable
@@ -86,6 +90,12 @@ class Change:
         names[self.paths[-1]] = self.file
 
 
+def data_of(path):
+    if path.is_symlink():
+        return Link(os.readlink(path))
+    return path.read_bytes() if path.is_file() else None
+
+
 class Disk:
     """What the program sees of a folder, and what of that is durable."""
 
@@ -93,7 +103,7 @@ class Disk:
         self.top, self.without = str(top), without
         self.names = {}
         for path in [top, *top.rglob("*")]:
-            self.names[str(path)] = File(path.read_bytes() if path.is_file() else None, True)
+            self.names[str(path)] = File(data_of(path), True)
         self.durable = dict(self.names)
         self.pending = []
 
@@ -212,7 +222,7 @@ class Recorder:
             if not self.entry[1] and os.path.lexists(path):
                 disk.change(Change("create", File(b"", False), path))
                 self.note_version(path)
-            elif disk.names[path].data is not None:
+            elif path in disk.names and isinstance(disk.names[path].data, bytes):
                 self.reread(path)
         elif name in WRITES:
             self.reread(path)
@@ -295,8 +305,10 @@ def fault_of_opening(program, table, state, chain):
     for it in table.iterdir():
         shutil.rmtree(it)
     # folders come before what they hold
-    for path, data in sorted(state):
-        if data is not None:
+    for path, data in sorted(state, key=lambda it: it[0]):
+        if isinstance(data, Link):
+            os.symlink(data, path)
+        elif data is not None:
             pathlib.Path(path).write_bytes(data)
         elif path != str(table):
             os.mkdir(path)
@@ -308,12 +320,24 @@ def fault_of_opening(program, table, state, chain):
 
 
 class Run:
-    """A list of statements, the status that they end with, what is done to the table before, and what is done before each
-    system call."""
+    """A list of statements, the status that they end with, what is laid into the table's folder before, what of that
+    isn't durable, and what is done before each system call."""
 
-    def __init__(self, name, statements, status=None, prepare=None, meanwhile=None):
+    def __init__(self, name, statements, status=None, lay=None, prepare=None, meanwhile=None):
         self.name, self.statements, self.status = name, statements, status
-        self.prepare, self.meanwhile = prepare, meanwhile
+        self.lay, self.prepare, self.meanwhile = lay, prepare, meanwhile
+
+
+def copied_version(folder):
+    """A version 4, which another program made."""
+    (folder / "v4.metadata.json").write_bytes((folder / "v3.metadata.json").read_bytes())
+
+
+def linked_version(folder):
+    """A link in the place of version 4: what it names may be gone after a loss of power, and no version is built on it."""
+    copied_version(folder)
+    os.rename(folder / "v4.metadata.json", folder.parent.parent / "elsewhere.json")
+    (folder / "v4.metadata.json").symlink_to(folder.parent.parent / "elsewhere.json")
 
 
 def killed_before(disk):
@@ -366,20 +390,21 @@ RUNS = [
         status=0,
     ),
     Run("a rollback, and one that is refused", [BACK[0], "CALL c.system.rollback_to_snapshot('{T}', 33)"], status=1),
-    Run("behind a program that was killed at its rename", BACK, status=0, prepare=killed_before),
+    Run("behind a program that was killed at its rename", BACK, status=0, lay=copied_version, prepare=killed_before),
+    Run("a link in the place of the next version", BACK[:1], status=6, lay=linked_version),
     Run("a race that is lost", BACK[:1], status=4, meanwhile=raced),
     Run("a rollback whose last sync fails", BACK[:1], status=6, meanwhile=last_sync_fails),
     Run("a rollback by small writes", BACK[:1], status=0, meanwhile=few_bytes),
 ]
 
 
-def fresh_table(folder, has_killed):
-    """The table with a branch `audit`, and a version 4 where another program is to have made one."""
+def fresh_table(folder, lay):
+    """The table with a branch `audit`."""
     table = tables.make_table(folder)
     file = table / "metadata/v3.metadata.json"
     file.write_text(file.read_text().replace('"refs":{', '"refs":{"audit":{"snapshot-id":33,"type":"branch"},'))
-    if has_killed:
-        file.with_name("v4.metadata.json").write_bytes(file.read_bytes())
+    if lay is not None:
+        lay(file.parent)
     return table
 
 
@@ -408,7 +433,7 @@ def record(program, table, run, without):
 
 def faults_of(program, work, run, without=()):
     """What is wrong in the states of a run, with what was recorded."""
-    table = fresh_table(work / "t", run.prepare is killed_before)
+    table = fresh_table(work / "t", run.lay)
     recorder, status, err = record(program, table, run, without)
     faults = []
     if run.status is None:
