@@ -19,7 +19,7 @@ with open(sys.argv[2], "w") as file:
 roll_back() { # COUNT ROUND: seconds and peak of one rollback, on a table of its own
     local table="$work/table-$1-$2" first
     first="$(python3 bench/rollback_table.py "$table" "$1")"
-    python3 bench/measured.py "$program" "CALL c.system.rollback_to_snapshot(table => '$table', snapshot_id => $first)"
+    python3 bench/measured.py "$program" "CALL c.system.rollback_to_snapshot(table => '$table', snapshot_id => $first)" || exit 1
     [ -f "$table/metadata/v2.metadata.json" ] || { echo "bench/rollback.sh: no version 2 in $table" >&2; exit 1; }
     [ "$2" = 1 ] || rm -rf "$table"
 }
@@ -28,7 +28,7 @@ roll_back() { # COUNT ROUND: seconds and peak of one rollback, on a table of its
 python="$(python3 -c 'import sys; print(sys.executable)')"
 
 reread() { # COUNT: seconds and peak of Python's json, on the file of the first table of this size
-    python3 bench/measured.py "$python" -c "$again" "$work/table-$1-1/metadata/v1.metadata.json" "$work/again.json"
+    python3 bench/measured.py "$python" -c "$again" "$work/table-$1-1/metadata/v1.metadata.json" "$work/again.json" || exit 1
 }
 
 # the least of the first numbers and the greatest of the second ones
@@ -46,7 +46,9 @@ for count in "$@"; do
     read -r seconds peak <<<"$(best <<<"$ours")"
     read -r their_seconds their_peak <<<"$(best <<<"$theirs")"
     # a kilobyte of the system's count is 1,024 bytes, a megabyte here 1,000,000
-    read -r ratio peak_mb their_mb times <<<"$(awk '{ printf "%.2f %.0f %.0f %.1f", $1 / $2, $3 * 1.024 / 1000, $4 * 1.024 / 1000, $3 * 1024 / $5 }' \
-        <<<"$seconds $their_seconds $peak $their_peak $bytes")"
+    read -r ratio peak_mb their_mb times <<<"$(
+        awk '{ printf "%.2f %.0f %.0f %.1f", $1 / $2, $3 * 1.024 / 1000, $4 * 1.024 / 1000, $3 * 1024 / $5 }' \
+            <<<"$seconds $their_seconds $peak $their_peak $bytes"
+    )"
     printf "$line" "$count" "$bytes" "$seconds" "$their_seconds" "$ratio" "$peak_mb" "$their_mb" "$times"
 done

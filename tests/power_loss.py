@@ -19,6 +19,7 @@ Each STATEMENT has {T} where the place of the table goes, which is data/three_sn
 run. It ends with 1 where something is wrong.
 """
 import argparse
+import errno
 import fcntl
 import hashlib
 import itertools
@@ -62,8 +63,12 @@ class NoRule(Exception):
     """The disk's rules don't tell of this call."""
 
 
+class Link(str):
+    """What a symbolic link names."""
+
+
 class File:
-    """A file, or a folder where `data` is None: what it has now, and whether all of that is durable."""
+    """A file, or a folder where `data` is None, or a link: what it has now, and whether all of that is durable."""
 
     def __init__(self, data, is_durable):
         self.data, self.is_durable = data, is_durable
@@ -85,6 +90,12 @@ class Change:
         names[self.paths[-1]] = self.file
 
 
+def data_of(path):
+    if path.is_symlink():
+        return Link(os.readlink(path))
+    return path.read_bytes() if path.is_file() else None
+
+
 class Disk:
     """What the program sees of a folder, and what of that is durable."""
 
@@ -92,7 +103,7 @@ class Disk:
         self.top, self.without = str(top), without
         self.names = {}
         for path in [top, *top.rglob("*")]:
-            self.names[str(path)] = File(path.read_bytes() if path.is_file() else None, True)
+            self.names[str(path)] = File(data_of(path), True)
         self.durable = dict(self.names)
         self.pending = []
 
@@ -211,7 +222,7 @@ class Recorder:
             if not self.entry[1] and os.path.lexists(path):
                 disk.change(Change("create", File(b"", False), path))
                 self.note_version(path)
-            elif disk.names[path].data is not None:
+            elif path in disk.names and isinstance(disk.names[path].data, bytes):
                 self.reread(path)
         elif name in WRITES:
             self.reread(path)
@@ -294,8 +305,10 @@ def fault_of_opening(program, table, state, chain):
     for it in table.iterdir():
         shutil.rmtree(it)
     # folders come before what they hold
-    for path, data in sorted(state):
-        if data is not None:
+    for path, data in sorted(state, key=lambda it: it[0]):
+        if isinstance(data, Link):
+            os.symlink(data, path)
+        elif data is not None:
             pathlib.Path(path).write_bytes(data)
         elif path != str(table):
             os.mkdir(path)
@@ -307,11 +320,24 @@ def fault_of_opening(program, table, state, chain):
 
 
 class Run:
-    """A list of statements, what is done to the table before, and what another program does meanwhile."""
+    """A list of statements, the status that they end with, what is laid into the table's folder before, what of that
+    isn't durable, and what is done before each system call."""
 
-    def __init__(self, name, statements, status=None, prepare=None, meanwhile=None):
+    def __init__(self, name, statements, status=None, lay=None, prepare=None, meanwhile=None):
         self.name, self.statements, self.status = name, statements, status
-        self.prepare, self.meanwhile = prepare, meanwhile
+        self.lay, self.prepare, self.meanwhile = lay, prepare, meanwhile
+
+
+def copied_version(folder):
+    """A version 4, which another program made."""
+    (folder / "v4.metadata.json").write_bytes((folder / "v3.metadata.json").read_bytes())
+
+
+def linked_version(folder):
+    """A link in the place of version 4: what it names may be gone after a loss of power, and no version is built on it."""
+    copied_version(folder)
+    os.rename(folder / "v4.metadata.json", folder.parent.parent / "elsewhere.json")
+    (folder / "v4.metadata.json").symlink_to(folder.parent.parent / "elsewhere.json")
 
 
 def killed_before(disk):
@@ -328,7 +354,7 @@ def raced(recorder, call):
     lock = pathlib.Path(recorder.disk.top, "metadata", tables.LOCK)
     place = lock.with_name("v4.metadata.json")
     if call.name != "flock" or place.exists():
-        return
+        return None
     with open(lock, "ab") as file:
         fcntl.flock(file, fcntl.LOCK_EX)
         data = lock.with_name("v3.metadata.json").read_bytes()
@@ -338,6 +364,17 @@ def raced(recorder, call):
     # a sync of the folder by another program is one of all its names
     disk.sync(os.path.dirname(place)) if "folders" not in disk.without else None
     recorder.note_version(str(place))
+    return None
+
+
+def last_sync_fails(recorder, call):
+    """No sync behind the rename is made."""
+    return tracer.fail(errno.EIO) if call.name in SYNCS and 4 in recorder.versions else None
+
+
+def few_bytes(recorder, call):
+    """Each write takes 1,000 bytes at most."""
+    return tracer.cut(min(call.args[2], 1000)) if call.name == "write" else None
 
 
 BACK = ["CALL c.system.rollback_to_snapshot('{T}', 22)", "CALL c.system.rollback_to_snapshot('{T}', 11)"]
@@ -353,18 +390,21 @@ RUNS = [
         status=0,
     ),
     Run("a rollback, and one that is refused", [BACK[0], "CALL c.system.rollback_to_snapshot('{T}', 33)"], status=1),
-    Run("behind a program that was killed at its rename", BACK, status=0, prepare=killed_before),
+    Run("behind a program that was killed at its rename", BACK, status=0, lay=copied_version, prepare=killed_before),
+    Run("a link in the place of the next version", BACK[:1], status=6, lay=linked_version),
     Run("a race that is lost", BACK[:1], status=4, meanwhile=raced),
+    Run("a rollback whose last sync fails", BACK[:1], status=6, meanwhile=last_sync_fails),
+    Run("a rollback by small writes", BACK[:1], status=0, meanwhile=few_bytes),
 ]
 
 
-def fresh_table(folder, has_killed):
-    """The table with a branch `audit`, and a version 4 where another program is to have made one."""
+def fresh_table(folder, lay):
+    """The table with a branch `audit`."""
     table = tables.make_table(folder)
     file = table / "metadata/v3.metadata.json"
     file.write_text(file.read_text().replace('"refs":{', '"refs":{"audit":{"snapshot-id":33,"type":"branch"},'))
-    if has_killed:
-        file.with_name("v4.metadata.json").write_bytes(file.read_bytes())
+    if lay is not None:
+        lay(file.parent)
     return table
 
 
@@ -379,9 +419,9 @@ def record(program, table, run, without):
     recorder.cut()
 
     def before(call):
-        if run.meanwhile is not None:
-            run.meanwhile(recorder, call)
+        what = run.meanwhile(recorder, call) if run.meanwhile is not None else None
         recorder.before(call)
+        return what
 
     words = tables.statements(table, run.statements)
     status, _, err = tracer.run([program, *words], before=before, after=recorder.after)
@@ -393,7 +433,7 @@ def record(program, table, run, without):
 
 def faults_of(program, work, run, without=()):
     """What is wrong in the states of a run, with what was recorded."""
-    table = fresh_table(work / "t", run.prepare is killed_before)
+    table = fresh_table(work / "t", run.lay)
     recorder, status, err = record(program, table, run, without)
     faults = []
     if run.status is None:

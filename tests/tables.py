@@ -6,7 +6,8 @@ import re
 import shutil
 import subprocess
 
-SOURCE = pathlib.Path(__file__).resolve().parent.parent / "data/three_snapshots"
+TOP = pathlib.Path(__file__).resolve().parent.parent
+SOURCE = TOP / "data/three_snapshots"
 LOCK = ".upkeep.lock"
 VERSION = re.compile(r"v([1-9][0-9]*)[.]metadata[.]json")
 DRAFT = re.compile(r"[0-9a-f]{8}(-[0-9a-f]{4}){3}-[0-9a-f]{12}[.]metadata[.]json")
@@ -77,3 +78,16 @@ def listed(program, folder):
     word = f"CALL c.system.ancestors_of('{folder}')"
     ran = subprocess.run([program, word], capture_output=True, timeout=60)
     return ran.returncode, ran.stdout.decode(), ran.stderr.decode()
+
+
+def statuses():
+    """The statuses of docs/STATUSES.md by their names: each with its number and its message, or the first of several."""
+    found, number = {}, None
+    for line in (TOP / "docs/STATUSES.md").read_text().splitlines():
+        heading = re.match(r"## ([0-9]+):", line)
+        row = re.match(r"[|] (?:([0-9]+) [|] )?([A-Z]\w+) [|] `([^`]+)`", line)
+        if heading:
+            number = int(heading[1])
+        elif row:
+            found[row[2]] = (int(row[1] or number), row[3])
+    return found

@@ -7,7 +7,6 @@ have it take fewer bytes, or have the program killed.
 As a script it holds what it sees of a command against what `strace` sees, where that is installed: COMMAND ARGUMENT ..
 """
 import ctypes
-import errno
 import os
 import platform
 import shutil
