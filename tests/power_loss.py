@@ -39,7 +39,7 @@ import tracer  # noqa: E402
 TOP = pathlib.Path(__file__).resolve().parent.parent
 STDOUT = 1
 AT_FDCWD = -100
-# with more states than this at one cut, a part of the subsets stands for all
+# with more subsets than this at one cut, or more contents, a part of them stands for all
 MOST_SUBSETS = 4096
 
 HARMLESS = set(
@@ -143,9 +143,11 @@ class Disk:
     def states(self):
         """Each map from paths to bytes (None: a folder) that the disk may have now, and whether these are all."""
         subsets, is_all = self.subsets()
-        return itertools.chain.from_iterable(map(self.states_of, subsets)), is_all
+        dirty = sum(not file.is_durable for file in {id(it): it for it in self.names.values()}.values())
+        is_all = is_all and 4**dirty <= MOST_SUBSETS
+        return itertools.chain.from_iterable(self.states_of(taken, is_all) for taken in subsets), is_all
 
-    def states_of(self, taken):
+    def states_of(self, taken, is_all):
         names = dict(self.durable)
         for change, is_taken in zip(self.pending, taken):
             if is_taken:
@@ -153,8 +155,18 @@ class Disk:
         # a name stands only where the folders above it do
         names = {path: file for path, file in names.items() if path == self.top or os.path.dirname(path) in names}
         paths = sorted(names)
-        for contents in itertools.product(*(contents_of(names[path]) for path in paths)):
+        choices = [contents_of(names[path]) for path in paths]
+        for contents in itertools.product(*choices) if is_all else some_of(choices):
             yield dict(zip(paths, contents))
+
+
+def some_of(choices):
+    """The last choices, which are those with all bytes, and these with one of them changed, or with all."""
+    whole = [it[-1] for it in choices]
+    yield whole
+    for at, others in enumerate(choices):
+        yield from ([*whole[:at], other, *whole[at + 1 :]] for other in others[:-1])
+    yield from ([it[min(at, len(it) - 1)] for it in choices] for at in range(3))
 
 
 def contents_of(file):

@@ -84,10 +84,11 @@ def statuses():
     """The statuses of docs/STATUSES.md by their names: each with its number and its message, or the first of several."""
     found, number = {}, None
     for line in (TOP / "docs/STATUSES.md").read_text().splitlines():
-        heading = re.match(r"## ([0-9]+):", line)
+        if line.startswith("#"):
+            # the heading of statuses of one number, or another one
+            heading = re.match(r"## ([0-9]+):", line)
+            number = int(heading[1]) if heading else None
         row = re.match(r"[|] (?:([0-9]+) [|] )?([A-Z]\w+) [|] `([^`]+)`", line)
-        if heading:
-            number = int(heading[1])
-        elif row:
-            found[row[2]] = (int(row[1] or number), row[3])
+        if row and (row[1] or number is not None):
+            found.setdefault(row[2], (int(row[1] or number), row[3]))
     return found
