@@ -6,10 +6,10 @@ use Rattle.ice_store.specs.Since.{Since}
 use Rattle.ice_store.proofs.SinceLaws.{since_start, since_turned}
 use Rattle.serde_json.specs.View.{view}
 use Rattle.commit_history.specs.Versions.{number_in}
-use Rattle.commit_publish.specs.Stages.{Narrow, NoReach, InState}
+use Rattle.commit_publish.specs.Stages.{InState}
 use Rattle.commit_publish.specs.Leaves.{PublishLeaves}
 use Rattle.commit_versions.specs.Opening.{OpenStage}
-use Rattle.commit_protocol.specs.Metadata.{IsTableOf}
+use Rattle.commit_protocol.specs.Metadata.{metadata_rules}
 use Rattle.commit_publish.specs.Left.{IsNaming, Notes, TellsRename}
 use Rattle.commit_publish.specs.declared.publish.PublishErr.{PublishErr}
 use Rattle.ice_store.specs.declared.faults.ReadErr.TheVariants.{StoreFault}
@@ -48,7 +48,7 @@ returns-in-Ok-publish_version-clause-told g c =
     let r = Ok c.in-Ok-publish_version.field-0 in
     let bytes : c.deref.result.now ≡ w.bytes = c.deref.ensures.value ∙ c.inner.ensures in
     let told = subst (λ (x : List ℕ). Since p0 p1 (PublishLeaves (number_in w.route.table) (Narrow IsTableOf w.route.table) NoReach allows w.route.base w.route.text w.route.target w.route.draft x r)) bytes c.in-Ok-publish_version.ensures.told in
-    since_turned p0 p1 (PublishLeaves (number_in t) (Narrow IsTableOf t) NoReach allows c.args.at.place c.args.at.text w.route.target w.route.draft w.bytes r) (laws.BuiltLeaves t allows c.requires.mannered c.args.now Drawn c.args.at built (Ok (Published (c.args.at.version + 1))))
+    since_turned p0 p1 (PublishLeaves (metadata_rules t allows) c.args.at.place c.args.at.text w.route.target w.route.draft w.bytes r) (laws.BuiltLeaves t allows c.requires.mannered c.args.now Drawn c.args.at built (Ok (Published (c.args.at.version + 1))))
     (laws.moved_in t allows c.requires.mannered c.args.now Drawn c.args.at built c.next-id.result c.next-id.ensures c.requires.limit w is p0 p1 r told)
     (λ old new left. laws.published_ok t allows c.requires.mannered c.args.now Drawn c.args.at built c.next-id.result c.next-id.ensures c.requires.limit w is old new left)
 
@@ -69,7 +69,7 @@ returns-clause-told g c =
     let told = subst (λ (x : List ℕ). Since p0 p1 (PublishLeaves (number_in w.route.table) (Narrow IsTableOf w.route.table) NoReach allows w.route.base w.route.text w.route.target w.route.draft x r)) bytes c.in-Err-publish_version.ensures.told in
     let Leaves = laws.BuiltLeaves t allows c.requires.mannered c.args.now Drawn c.args.at built in
     let error : c.commit_error.result ≡ commit_error_by e w.route.draft t v = c.commit_error.ensures ∙ ap (λ (x : Parts). commit_error_by e w.route.draft x v) is.table_is in
-    let base = since_turned p0 p1 (PublishLeaves (number_in t) (Narrow IsTableOf t) NoReach allows c.args.at.place c.args.at.text w.route.target w.route.draft w.bytes r) (Leaves (Err (commit_error_by e w.route.draft t v)))
+    let base = since_turned p0 p1 (PublishLeaves (metadata_rules t allows) c.args.at.place c.args.at.text w.route.target w.route.draft w.bytes r) (Leaves (Err (commit_error_by e w.route.draft t v)))
     (laws.moved_in t allows c.requires.mannered c.args.now Drawn c.args.at built c.next-id.result c.next-id.ensures c.requires.limit w is p0 p1 r told)
     (λ old new left. laws.published_err t allows c.requires.mannered c.args.now Drawn c.args.at built c.next-id.result c.next-id.ensures c.requires.limit w is old new e left) in
     subst (λ (x : CommitErr). Since p0 p1 (Leaves (Err x))) (sym error) base
@@ -99,7 +99,7 @@ returns-in-Err-clause-noted g c =
     let Drawn = Gives (g.I.Ids.given c.args.ids.now) (g.I.Ids.given c.next-id.new.self) in
     let K = InState (OpenStage (number_in t) c.args.at.place) in
     since_start p0 K (Notes (Rose before before) (IsNamingOf Drawn t) 0 [] had had) c.requires.start
-    (λ old here. notes_none (number_in t) (Narrow IsTableOf t) NoReach allows (IsNamingOf Drawn t) (Rose before before) K had had old old refl (laws.stays t allows c.requires.mannered c.args.now Drawn c.args.at K old here))
+    (λ old here. notes_none (metadata_rules t allows) (IsNamingOf Drawn t) (Rose before before) K had had old old refl (laws.stays t allows c.requires.mannered c.args.now Drawn c.args.at K old here))
 
 pub returns-in-Ok-publish_version-clause-noted : goal.returns-in-Ok-publish_version-clause-noted
 returns-in-Ok-publish_version-clause-noted g c =
