@@ -75,7 +75,7 @@ module _ (table : Parts) (allows : Past → Step → Type 0) (nobody : IsNobody 
       let opened = opening_answered table allows nobody (Ok a.at) old a.mid a.opened in
       let stage = a.then.3.left.stage in
       let based : sealed_at (replay a.mid).files a.at.place ≡ Some a.at.text → sealed_at (replay a.mid).files d.route.base ≡ Some d.route.text =
-          λ e. subst (λ (p : Parts). sealed_at (replay a.mid).files p ≡ Some d.route.text) (sym d.base_is) (e ∙ ap (λ (t : List ℕ). Some t) (sym d.text_is)) in
+      λ e. subst (λ (p : Parts). sealed_at (replay a.mid).files p ≡ Some d.route.text) (sym d.base_is) (e ∙ ap (λ (t : List ℕ). Some t) (sym d.text_is)) in
       record {
         place = a.at.place;
         last = a.at.version;

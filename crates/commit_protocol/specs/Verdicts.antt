@@ -275,8 +275,8 @@ IsExactCommit meanings Drawn table now result files = (r : Result Committed Comm
 -- Of a call between two moments.
 
 -- the answer of a commit has its cause in the files at the entry
-abbrev pub HasVerdict : Meanings → (ℕ → Type 0) → Parts → ℕ → Result Committed CommitErr → Past → Past → Type 0
-HasVerdict meanings Drawn table now result old new = CommitVerdict meanings Drawn table now (replay old).files result
+abbrev pub IsCaused : Meanings → (ℕ → Type 0) → Parts → ℕ → Result Committed CommitErr → Past → Past → Type 0
+IsCaused meanings Drawn table now result old new = CommitVerdict meanings Drawn table now (replay old).files result
 
 -- where nobody else acts, the meanings exclude one another and one identifier was drawn, the answer whose cause stands in the files at the entry is the one given
 abbrev pub IsExactly : (Past → Step → Type 0) → Meanings → (ℕ → Type 0) → Parts → ℕ → Result Committed CommitErr → Past → Past → Type 0

@@ -17,10 +17,10 @@ ghost use Rattle.commit_protocol.specs.Causes.{AttemptRose};
 ghost use Rattle.commit_protocol.specs.declared.errors.AttemptErr.{AttemptErr as Refused};
 
 use crate::errors::AttemptErr;
+use commit_publish::Log;
 use ice_store::{Ids, Manners, Place, Store};
 use std::alloc::Global;
 use table_metadata::Meta;
-use commit_publish::Log;
 
 /// What a change makes of a base.
 #[derive(Drop)]

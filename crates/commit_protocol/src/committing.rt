@@ -21,18 +21,17 @@ ghost use Rattle.commit_protocol.specs.Causes.{CommitRose};
 ghost use Rattle.commit_protocol.specs.Failures.{IsFaultOf, IsUnknownEnd, TellsFault, fault_at, unknown_at};
 ghost use Rattle.commit_protocol.specs.Metadata.{IsMetadata, metadata_rules};
 ghost use Rattle.commit_protocol.specs.Promises.{StopsHavePrefix, StopsHaveFiles, Succeeds};
-ghost use Rattle.commit_protocol.specs.Verdicts.{IsNobody, IsIdle, HasVerdict, IsExactly};
+ghost use Rattle.commit_protocol.specs.Verdicts.{IsNobody, IsIdle, IsCaused, IsExactly};
 ghost use Rattle.commit_protocol.specs.Written.{IsOn, IsWritten, IsUnwritten, CommitLeft, CommitNotes, PublishedLeaves, commits, commit_error_by, version_at};
 
 use crate::change::{Built, Change};
 use crate::errors::{AttemptErr, CommitErr, Committed};
 use crate::opening::{At, Metadata, open_table};
+use commit_publish::{FailedCall, Log, PublishErr, Route, publish_version};
+use commit_versions::{FILE_LIMIT, draft_place, version_place, version_text};
 use ice_store::{Bytes, Ids, Manners, Place, ReadErr, Store, Text, What, Where};
 use std::alloc::{AllocError, Global};
 use table_metadata::{Meta, write_meta};
-use commit_publish::{FailedCall, Log, PublishErr, Route, publish_version};
-use commit_versions::{draft_place, version_place, version_text};
-use commit_versions::FILE_LIMIT;
 
 /// What a commit needs of its base once the base's metadata is given to the change.
 #[derive(Drop)]
@@ -145,9 +144,9 @@ fn commit_error(e: PublishErr, route: Route, version: u64) -> CommitErr
         PublishErr::NameTaken => CommitErr::Attempt(AttemptErr::NameTaken { place: route.draft }),
         PublishErr::Contended => CommitErr::Contended { version },
         PublishErr::Unknown => CommitErr::CommitUnknown { version },
-        PublishErr::Fault(FailedCall::OnFile) => CommitErr::Attempt(AttemptErr::Read(ReadErr::StoreFault {
-            place: route.draft,
-        })),
+        PublishErr::Fault(FailedCall::OnFile) => CommitErr::Attempt(AttemptErr::Read(
+            ReadErr::StoreFault { place: route.draft },
+        )),
         PublishErr::Fault(FailedCall::OnNames) => CommitErr::Attempt(AttemptErr::Read(
             ReadErr::StoreFault { place: route.table },
         )),
@@ -292,7 +291,7 @@ pub fn commit<M: Manners, S: Store<M>, I: Ids, X: Change<M>>(
     ensures opening { (e : TheOpenErr) → result ≡ Err (CommitErr.Open e) → OpenFaultAt table.now e }
     ensures fault { (place : Parts) → result ≡ fault_at place → TellsFault (X.meanings change.old change.new) (Gives (I.given ids.old) (I.given ids.new)) table.now place log.old.left.items log.new.left.items }
     ensures renamed { (v : ℕ) → result ≡ unknown_at v → Since (S.past store.old) (S.past store.new) (IsUnknownEnd (Gives (I.given ids.old) (I.given ids.new)) table.now v log.old.left.items log.new.left.items) }
-    ensures alone { IsNobody (M.allows (S.manners store.old)) → Since (S.past store.old) (S.past store.new) (HasVerdict (X.meanings change.old change.new) (Gives (I.given ids.old) (I.given ids.new)) table.now now result) }
+    ensures alone { IsNobody (M.allows (S.manners store.old)) → Since (S.past store.old) (S.past store.new) (IsCaused (X.meanings change.old change.new) (Gives (I.given ids.old) (I.given ids.new)) table.now now result) }
     ensures exactly { Since (S.past store.old) (S.past store.new) (IsExactly (M.allows (S.manners store.old)) (X.meanings change.old change.new) (Gives (I.given ids.old) (I.given ids.new)) table.now now result) }
     ensures idle { IsNobody (M.allows (S.manners store.old)) → Since (S.past store.old) (S.past store.new) (IsIdle result) }
     ensures prefix { Since (S.past store.old) (S.past store.new) (StopsHavePrefix table.now) }

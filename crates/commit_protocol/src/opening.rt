@@ -15,11 +15,11 @@ ghost use Rattle.commit_protocol.specs.Causes.{TableRose};
 ghost use Rattle.commit_protocol.specs.Verdicts.{IsNobody, OpenVerdict, IsExactOpening};
 ghost use Rattle.ice_store.specs.History.{replay};
 
+use commit_history::TableReading;
+use commit_versions::{OpenErr, Opened, open_version};
 use ice_store::{Bytes, Manners, Place, PlaceErr, ReadErr, Store, Text, What, Where};
 use std::alloc::Global;
 use table_metadata::{Meta, MetaCause, MetaErr, read_meta};
-use commit_history::TableReading;
-use commit_versions::{OpenErr, Opened, open_version};
 
 /// Table metadata as JSON: the bytes of a version file.
 #[derive(Debug, Clone, Copy)]

@@ -12,12 +12,12 @@ ghost use Rattle.commit_publish.specs.Leaves.{Halts};
 ghost use Rattle.commit_versions.specs.Opening.{OpenStage, FindLeaves, ReadLeaves, ReadOpened, FoundStage, FoundLeaves, OpenLeaves, OpenRose, OpenFaultAt, version_file_of};
 ghost use Rattle.commit_versions.specs.Latest.{IsLatest, IsBaseNumber, IsFound, HasBaseNumber};
 
-use crate::types::{FILE_LIMIT, Found, Latest, OpenErr, Opened, VersionFile, VERSION_LIMIT};
-use ice_store::{Bytes, Listed, Manners, Place, ReadErr, Store, StoreErr, What};
-use std::alloc::Global;
-use commit_history::TableReading;
 use crate::names::metadata_folder;
 use crate::numbers::version_number;
+use crate::types::{FILE_LIMIT, Found, Latest, OpenErr, Opened, VERSION_LIMIT, VersionFile};
+use commit_history::TableReading;
+use ice_store::{Bytes, Listed, Manners, Place, ReadErr, Store, StoreErr, What};
+use std::alloc::Global;
 
 // `Err` where an item's number is beyond the limit
 fn latest_of(table: &Place, listed: &[Listed]) -> Result<Latest, usize>

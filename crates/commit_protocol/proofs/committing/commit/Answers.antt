@@ -16,7 +16,7 @@ use Rattle.commit_versions.specs.Opening.{OpenFaultAt}
 use Rattle.commit_protocol.proofs.StepLaws.{opened_idle, open_err_idle}
 use Rattle.commit_protocol.proofs.PromiseLaws.{stops_have_prefix, stops_have_files, each_succeeds}
 use Rattle.commit_protocol.specs.Attempts.{AttemptLeaves, CommitLeaves}
-use Rattle.commit_protocol.specs.Verdicts.{IsIdle, HasVerdict, IsExactly}
+use Rattle.commit_protocol.specs.Verdicts.{IsIdle, IsCaused, IsExactly}
 use Rattle.commit_protocol.proofs.CommitLaws as laws
 use Rattle.commit_protocol.proofs.VerdictLaws.{commit_ends}
 use Rattle.commit_protocol.proofs.ExactLaws.{exactly}
@@ -45,7 +45,7 @@ returns-in-Ok-clause-alone g c nobody =
     let meanings = g.X.Change.meanings c.args.change.now c.attempt_on.new.change in
     let Drawn = Gives (g.I.Ids.given c.args.ids.now) (g.I.Ids.given c.attempt_on.new.ids) in
     let r = c.attempt_on.result in
-    since_turned (g.S.Store.past c.args.store.now) (g.S.Store.past c.attempt_on.new.store) (CommitLeaves t allows meanings Drawn c.args.now r) (HasVerdict meanings Drawn t c.args.now r) (returns-in-Ok-clause-told g c)
+    since_turned (g.S.Store.past c.args.store.now) (g.S.Store.past c.attempt_on.new.store) (CommitLeaves t allows meanings Drawn c.args.now r) (IsCaused meanings Drawn t c.args.now r) (returns-in-Ok-clause-told g c)
     (λ old new h. (commit_ends t allows nobody meanings Drawn c.args.now r old new h).1)
 
 pub returns-in-Ok-clause-idle : goal.returns-in-Ok-clause-idle
