@@ -27,7 +27,8 @@ use Rattle.commit_protocol.proofs.PromiseLaws.{succeeds}
 use Rattle.commit_protocol.proofs.StepLaws.{commit_steps}
 use Rattle.commit_protocol.proofs.VerdictLaws.{opening_answered}
 use Rattle.run_answers.specs.declared.status.Status.{Status}
-use Rattle.run_refs.specs.Moves.{Moves, HasSeen, moves_of}
+use Rattle.run_refs.specs.Meanings.{moves_of}
+use Rattle.run_refs.specs.Moves.{Moves, HasSeen}
 use Rattle.run_refs.specs.declared.goal.Goal.{Goal}
 use Rattle.upkeep_top.specs.Promises.{Publishes, VersionsBy, HasSteps, HasSucceeded, Took, DoneSteps, versions_of}
 use Rattle.upkeep_top.specs.Reports.{move_report}

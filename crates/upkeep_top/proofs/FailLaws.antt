@@ -21,7 +21,7 @@ use Rattle.commit_protocol.specs.declared.errors.CommitErr.TheVariants.{Open, At
 use Rattle.run_answers.specs.Answers.{status_of}
 use Rattle.run_answers.specs.declared.status.Status.{Status}
 use Rattle.run_answers.specs.declared.status.Status.TheVariants as statuses
-use Rattle.run_refs.specs.Moves.{moves_of}
+use Rattle.run_refs.specs.Meanings.{moves_of}
 use Rattle.run_refs.specs.declared.goal.Goal.{Goal}
 use Rattle.upkeep_top.specs.Points.{Point}
 use Rattle.upkeep_top.specs.Runs.{RanAsked, AskOf, TellsFaultAt, TellsUnknown}

@@ -21,7 +21,8 @@ use Rattle.run_answers.specs.Answers.{status_of}
 use Rattle.run_answers.specs.declared.status.Status.{Status}
 use Rattle.run_answers.specs.declared.status.Status.TheVariants as statuses
 use Rattle.run_refs.specs.Ancestors.{Lists}
-use Rattle.run_refs.specs.Moves.{RefusesMove, moves_of}
+use Rattle.run_refs.specs.Meanings.{moves_of}
+use Rattle.run_refs.specs.Moves.{RefusesMove}
 use Rattle.run_refs.specs.declared.goal.Goal.{Goal}
 use Rattle.run_refs.proofs.AimLaws.{one_successor, moves_or_is_there, one_refusal, not_both}
 use Rattle.run_refs.proofs.ListingLaws.{lists_or_lacks}

@@ -17,7 +17,7 @@ use Rattle.run_answers.specs.Answers.{status_of}
 use Rattle.run_answers.specs.declared.status.Status.{Status}
 use Rattle.run_answers.specs.declared.status.Status.TheVariants as statuses
 use Rattle.run_refs.specs.Ancestors.{Lists}
-use Rattle.run_refs.specs.Moves.{moves_of}
+use Rattle.run_refs.specs.Meanings.{moves_of}
 use Rattle.run_refs.specs.declared.ancestors.Ancestor.{Ancestor}
 use Rattle.upkeep_top.specs.declared.task.Task.{Task}
 use Rattle.upkeep_top.specs.declared.task.Work.{Work}
