@@ -79,9 +79,7 @@ fn words_of(rt: &HostRuntime) -> Result<Vec<Text>, Unstarted> {
     })?;
     let mut words = Vec::new(rt.alloc());
     for arg in args.skip(1) {
-        if words.push(Text::new(arg.into_bytes())).is_err() {
-            return Err(Unstarted::Memory);
-        }
+        words.push(Text::new(arg.into_bytes()))?;
     }
     Ok(words)
 }
