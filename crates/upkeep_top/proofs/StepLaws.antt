@@ -64,7 +64,6 @@ module _ (reading : Reading) where
 -- Versions.
 
 module _ (number : Parts → ℕ) where
-
   pub versions-append : (a b : List Step) → versions_of number (a ++ b) ≡ versions_of number a ++ versions_of number b
   versions-append [] b = refl
   versions-append (s ∷ a) b = ap (λ (l : List ℕ). renamed_to number s ++ l) (versions-append a b) ∙ sym (append_assoc (renamed_to number s) (versions_of number a) (versions_of number b))
