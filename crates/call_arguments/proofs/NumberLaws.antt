@@ -2,12 +2,13 @@
 use Rattle.std.proofs.Common.{◌≡◌, ℕ, ◌+◌, ◌-◌, ◌*◌, ◌^◌, ◌≤◌, Bool, true, false, ◌&&◌, List, [], ◌∷◌, nat_lt, Option, Some, None, if◌then◌else◌, refl, sym, ap, arith}
 use Rattle.std.specs.List.{list_all}
 use Rattle.std.specs.Char.{is_ascii_digit}
-use Rattle.call_arguments.specs.Numbers.{number_on, magnitude_of, magnitude_from}
+use Rattle.ice_store.specs.Numbers.{number_on}
+use Rattle.call_arguments.specs.Numbers.{magnitude_of, magnitude_from}
 
 -- a number with digits behind it isn't smaller
 grows : (n : ℕ) (ds : List ℕ) → n ≤ number_on n ds
 grows n [] = omega arith
-grows n (d ∷ ds) = let more : n * 10 + (d - 48) ≤ number_on (n * 10 + (d - 48)) ds = grows (n * 10 + (d - 48)) ds in omega arith
+grows n (d ∷ ds) = let more : 10 * n + (d - 48) ≤ number_on (10 * n + (d - 48)) ds = grows (10 * n + (d - 48)) ds in omega arith
 
 bounded : ℕ → List ℕ → Option ℕ
 bounded n ds = if list_all is_ascii_digit ds && nat_lt (number_on n ds) (2 ^ 64) then Some (number_on n ds) else None
@@ -29,7 +30,7 @@ step true false m ds e later = sym (no_and (list_all is_ascii_digit ds) (nat_lt 
 from_is : (ds : List ℕ) (n : ℕ) → nat_lt n (2 ^ 64) ≡ true → magnitude_from n ds ≡ bounded n ds
 unfolding bounded
 from_is [] n e = sym (ap (λ (c : Bool). if c then Some n else None) e)
-from_is (d ∷ ds) n e = step (is_ascii_digit d) (nat_lt (n * 10 + (d - 48)) (2 ^ 64)) (n * 10 + (d - 48)) ds refl (from_is ds (n * 10 + (d - 48)))
+from_is (d ∷ ds) n e = step (is_ascii_digit d) (nat_lt (10 * n + (d - 48)) (2 ^ 64)) (10 * n + (d - 48)) ds refl (from_is ds (10 * n + (d - 48)))
 
 pub magnitude_is : (ds : List ℕ) → magnitude_from 0 ds ≡ magnitude_of ds
 unfolding magnitude_of bounded

@@ -2,13 +2,14 @@
 use Rattle.std.specs.Prelude.{ℕ, Bool, true, false, List, [], codes, Option, None, is_some, is_none, is_ok}
 use Rattle.std.specs.List.{list_all}
 use Rattle.std.specs.Str.{bytes_eq}
+use Rattle.ice_store.specs.Numbers.{largest_long}
 use Rattle.ice_store.specs.Places.{place_in}
 use Rattle.call_moments.specs.Moments.{moment_of}
 use Rattle.call_text.specs.declared.call.ArgValue.{ArgValue}
 use Rattle.call_text.specs.declared.call.ArgValue.TheVariants as values
 use Rattle.call_arguments.specs.declared.table.Form.{Form}
 use Rattle.call_arguments.specs.declared.table.Form.TheVariants.{Place, PlaceUnderTable, Text, Strategy, Boolean, Long, LongFrom0, RowCount, Int, IntFrom1, Timestamp, Longs, Options}
-use Rattle.call_arguments.specs.Numbers.{largest_int, largest_long, long_of, int_of, count_of}
+use Rattle.call_arguments.specs.Numbers.{largest_int, long_of, int_of, count_of}
 use Rattle.call_arguments.specs.Options.{options_of, first_bad_option}
 
 -- how many rows are generated at most

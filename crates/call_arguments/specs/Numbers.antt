@@ -2,19 +2,11 @@
 use Rattle.std.specs.Prelude.{ℕ, ◌+◌, ◌-◌, ◌*◌, ◌^◌, ℤ, pos, negsuc, neg_ℤ, int_le, Bool, ◌&&◌, ◌||◌, List, [], ◌∷◌, length, take, slice_index, Option, Some, None, nat_lt, nat_le, ◌==◌, if◌then◌else◌, option_and_then}
 use Rattle.std.specs.Char.{is_ascii_digit}
 use Rattle.std.specs.List.{list_all}
+use Rattle.ice_store.specs.Numbers.{number_on}
 
--- the largest number that Iceberg's type `long` has (Iceberg Table Spec, "Primitive Types")
-abbrev pub largest_long : ℕ
-largest_long = 9223372036854775807
-
--- the largest number that Iceberg's type `int` has (Iceberg Table Spec, "Primitive Types")
+-- the greatest `int` (Iceberg table specification, "Primitive Types": 32 bits with a sign)
 abbrev pub largest_int : ℕ
-largest_int = 2147483647
-
--- the number of more decimal digits behind those of a number
-abbrev pub number_on : ℕ → List ℕ → ℕ
-number_on n [] = n
-number_on n (d ∷ ds) = number_on (n * 10 + (d - 48)) ds
+largest_int = 2 ^ 31 - 1
 
 -- the number that decimal digits stand for, where it is below 2^64
 unfoldable pub magnitude_of : List ℕ → Option ℕ
@@ -23,7 +15,7 @@ magnitude_of ds = if list_all is_ascii_digit ds && nat_lt (number_on 0 ds) (2 ^ 
 -- the same, read digit by digit behind those of a number
 abbrev pub magnitude_from : ℕ → List ℕ → Option ℕ
 magnitude_from n [] = Some n
-magnitude_from n (d ∷ ds) = if is_ascii_digit d && nat_lt (n * 10 + (d - 48)) (2 ^ 64) then magnitude_from (n * 10 + (d - 48)) ds else None
+magnitude_from n (d ∷ ds) = if is_ascii_digit d && nat_lt (10 * n + (d - 48)) (2 ^ 64) then magnitude_from (10 * n + (d - 48)) ds else None
 
 -- the text ends in `L` or `l`
 abbrev pub ends_long : List ℕ → Bool
@@ -66,12 +58,3 @@ within least most (negsuc n) = None
 -- the number of a text, where it is one from `least` to `most`, and below 2^63
 abbrev pub count_of : ℕ → ℕ → List ℕ → Option ℕ
 count_of least most t = option_and_then (within least most) (long_of t)
-
--- the number, where it is below 2^63
-abbrev pub below_long : ℕ → Option ℕ
-below_long n = if nat_lt n (2 ^ 63) then Some n else None
-
--- the number that decimal digits alone stand for, where it is at most 2^63 - 1
-unfoldable pub natural_of : List ℕ → Option ℕ
-natural_of [] = None
-natural_of (d ∷ ds) = option_and_then below_long (magnitude_of (d ∷ ds))

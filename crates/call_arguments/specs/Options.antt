@@ -3,6 +3,7 @@
 use Rattle.std.specs.Prelude.{ℕ, Bool, true, false, not, ◌&&◌, List, [], ◌∷◌, ◌++◌, find, codes, Option, Some, None, is_some, nat_le, option_map, option_and_then, if◌then◌else◌}
 use Rattle.std.specs.List.{list_any}
 use Rattle.std.specs.Str.{bytes_eq}
+use Rattle.ice_store.specs.Numbers.{natural_of}
 use Rattle.call_arguments.specs.declared.options.Rewrite.{Rewrite}
 use Rattle.call_arguments.specs.declared.options.Rewrite.TheVariants.{Data, Deletes}
 use Rattle.call_arguments.specs.declared.options.OptionName.{OptionName}
@@ -10,7 +11,6 @@ use Rattle.call_arguments.specs.declared.options.OptionName.TheVariants.{TargetF
 use Rattle.call_arguments.specs.declared.options.OptionForm.{OptionForm}
 use Rattle.call_arguments.specs.declared.options.OptionForm.TheVariants.{From0, From1, Flag}
 use Rattle.call_arguments.specs.declared.options.OptionLine.{OptionLine}
-use Rattle.call_arguments.specs.Numbers.{natural_of}
 
 -- how an option is spelled
 unfoldable pub option_name : OptionName → List ℕ

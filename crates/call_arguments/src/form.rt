@@ -3,12 +3,12 @@ ghost use Rattle.std.specs.Prelude.{◌≡◌, IfOk, is_some, is_none, option_co
 ghost use Rattle.std.specs.List.{list_all};
 ghost use Rattle.call_arguments.specs.Forms.{is_place, is_long, fits_text, fits_number, fits_flag, fits_moment, fits_array, bad_option, bad_key, fits_map, fits};
 
-use crate::number::{LARGEST_INT, LARGEST_LONG, count_of, int_of, long_of};
+use crate::number::{LARGEST_INT, count_of, int_of, long_of};
 use crate::options::{first_bad_option, options_of};
 use crate::table::Form;
 use call_moments::moment_of;
 use call_text::ArgValue;
-use ice_store::{Place, PlaceErr, Text};
+use ice_store::{LARGEST_LONG, Place, PlaceErr, Text};
 use std::alloc::{AllocError, Global};
 
 // how many rows are generated at most

@@ -17,7 +17,7 @@ mod procedure;
 mod table;
 
 pub use check::{accepted_arguments, bad_argument, value_of};
-pub use number::{LARGEST_INT, LARGEST_LONG, count_of, int_of, long_of};
+pub use number::{LARGEST_INT, count_of, int_of, long_of};
 pub use options::{OptionName, flag_option, number_option};
 pub use procedure::{Procedure, procedure_named};
 pub use table::ArgName;

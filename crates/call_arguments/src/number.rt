@@ -2,16 +2,13 @@
 //! optional `L` or `l` behind, which changes nothing.
 ghost use Rattle.std.specs.Prelude.{◌≡◌, ◌≤◌, ◌<◌, ◌^◌, ◌*◌, ◌+◌, ◌-◌, length, take, Some, None, nat_lt, ◌&&◌, if◌then◌else◌};
 ghost use Rattle.std.specs.Char.{is_ascii_digit};
-ghost use Rattle.call_arguments.specs.Numbers.{magnitude_of, without_mark, positive, negative, unmarked_long, long_of, int_in, int_of, within, count_of, natural_of};
+ghost use Rattle.call_arguments.specs.Numbers.{magnitude_of, without_mark, positive, negative, unmarked_long, long_of, int_in, int_of, within, count_of};
 
-/// The largest number that Iceberg's type `long` has.
-pub const LARGEST_LONG: u64 = 9_223_372_036_854_775_807;
-
-/// The largest number that Iceberg's type `int` has.
+/// The greatest `int`: 2^31 - 1.
 pub const LARGEST_INT: u64 = 2_147_483_647;
 
 fn one_digit(number: u64, digit: u8) -> Option<u64>
-    ensures { result ≡ (if is_ascii_digit digit && nat_lt (number * 10 + (digit - 48)) (2 ^ 64) then Some (number * 10 + (digit - 48)) else None) }
+    ensures { result ≡ (if is_ascii_digit digit && nat_lt (10 * number + (digit - 48)) (2 ^ 64) then Some (10 * number + (digit - 48)) else None) }
 {
     if !digit.is_ascii_digit() {
         return None;
@@ -118,20 +115,4 @@ pub fn count_of(least: u64, most: u64, text: &[u8]) -> Option<u64>
     ensures { result ≡ count_of least most text.now }
 {
     within(least, most, long_of(text)?)
-}
-
-/// The number that decimal digits alone stand for, where it is at most 2^63 - 1.
-#[tactic(auto, unfolding(crate::specs::Numbers::natural_of))]
-pub(crate) fn natural_of(text: &[u8]) -> Option<u64>
-    ensures { result ≡ natural_of text.now }
-{
-    if text.is_empty() {
-        return None;
-    }
-    let number = magnitude(text)?;
-    if number < 0x8000_0000_0000_0000 {
-        Some(number)
-    } else {
-        None
-    }
 }

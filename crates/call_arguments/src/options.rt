@@ -5,8 +5,7 @@ ghost use Rattle.std.specs.Str.{bytes_eq};
 ghost use Rattle.call_arguments.specs.declared.options.OptionLine.{OptionLine as TheLine};
 ghost use Rattle.call_arguments.specs.Options.{option_name, options_of, flag_of, option_fits, option_line, is_right_option, first_bad_option, option_value, number_option, flag_option};
 
-use crate::number::natural_of;
-use ice_store::Text;
+use ice_store::{Text, natural_of};
 
 /// Which files a rewrite is for, since the options differ.
 #[derive(Clone, Copy)]

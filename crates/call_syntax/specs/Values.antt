@@ -1,11 +1,12 @@
 -- The value of one argument, as a command has it. Each reader is total: it gives none, or a default, where the value isn't
 -- of its form; which values are is said by the argument table alone.
 use Rattle.std.specs.Prelude.{ℕ, ℤ, pos, Bool, true, false, List, [], map, Option, Some, None, Result, Ok, Err, unwrap_or}
+use Rattle.ice_store.specs.Numbers.{largest_long}
 use Rattle.ice_store.specs.Places.{Parts, place_in}
 use Rattle.call_text.specs.declared.call.ArgValue.{ArgValue}
 use Rattle.call_text.specs.declared.call.ArgValue.TheVariants as values
 use Rattle.call_moments.specs.Moments.{moment_of}
-use Rattle.call_arguments.specs.Numbers.{largest_int, largest_long, long_of, int_of, count_of}
+use Rattle.call_arguments.specs.Numbers.{largest_int, long_of, int_of, count_of}
 use Rattle.call_arguments.specs.Options.{number_option, flag_option}
 use Rattle.call_arguments.specs.declared.options.OptionName.TheVariants.{TargetFileSizeBytes, MinFileSizeBytes, MaxFileSizeBytes, MinInputFiles, MaxFileGroupSizeBytes, RewriteAll, PartialProgressEnabled, PartialProgressMaxCommits, MaxConcurrentFileGroupRewrites, DeleteFileThreshold, UseStartingSequenceNumber, RemoveDanglingDeletes}
 use Rattle.call_syntax.specs.declared.command.OptionValues.{OptionValues}

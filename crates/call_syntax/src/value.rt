@@ -5,11 +5,11 @@ ghost use Rattle.call_syntax.specs.Values.{place_of, place_value, needed_place, 
 
 use crate::command::{IdList, OptionValues};
 use call_arguments::{
-    LARGEST_INT, LARGEST_LONG, OptionName, count_of, flag_option, int_of, long_of, number_option,
+    LARGEST_INT, OptionName, count_of, flag_option, int_of, long_of, number_option,
 };
 use call_moments::moment_of;
 use call_text::ArgValue;
-use ice_store::{Items, Place, PlaceErr, Text};
+use ice_store::{Items, LARGEST_LONG, Place, PlaceErr, Text};
 use std::alloc::{AllocError, Global};
 
 // the place that a text names

@@ -38,6 +38,7 @@ abbrev pub IsSettled : List NameChange → Parts → Type 0
 IsSettled [] q = Unit {0}
 IsSettled (change ∷ changes) q = (ChangesName change q → ⊥) × IsSettled changes q
 
+-- it is the creation of a name
 abbrev pub IsCreation : NameChange → Type 0
 IsCreation (Created place) = Unit {0}
 IsCreation (Renamed from to) = ⊥
@@ -60,6 +61,7 @@ pub record CanRename (from to : Parts) (d : Disk) : Type 0 where
 
 -- Answers. A failed call's step took place or didn't; for a step that the state stood against it didn't.
 
+-- New where the place isn't named, with the event of its creation; Exists where it is, with none
 abbrev pub CreateAnswer : Parts → Result Made StoreErr → Disk → List Event → Type 0
 CreateAnswer place (Ok New) d ours = (is_named d.files place ≡ false) × IsOurs (Create place) ours
 CreateAnswer place (Ok Exists) d ours = (is_named d.files place ≡ true) × (ours ≡ [])
@@ -78,25 +80,30 @@ StepAnswer step (Ok u) ours = IsOurs step ours
 StepAnswer step (Err Failed) ours = (ours ≡ []) ⊎ IsOurs step ours
 StepAnswer step (Err Memory) ours = ours ≡ []
 
+-- the same of the call whatever the state is
 abbrev pub PlainAnswer : Step → Result (Unit {0}) StoreErr → Disk → List Event → Type 0
 PlainAnswer step result d ours = StepAnswer step result ours
 
+-- Done where the second place isn't named, with the event of the rename; Exists where it is, with none
 abbrev pub RenameAnswer : Parts → Parts → Result Moved StoreErr → Disk → List Event → Type 0
 RenameAnswer from to (Ok Done) d ours = (is_named d.files to ≡ false) × IsOurs (Rename from to) ours
 RenameAnswer from to (Ok There) d ours = (is_named d.files to ≡ true) × (ours ≡ [])
 RenameAnswer from to (Err Failed) d ours = (ours ≡ []) ⊎ ((is_named d.files to ≡ false) × IsOurs (Rename from to) ours)
 RenameAnswer from to (Err Memory) d ours = ours ≡ []
 
+-- Done where the place is named, with the event of its removal; Absent where it isn't, with none
 abbrev pub RemoveAnswer : Parts → Result Gone StoreErr → Disk → List Event → Type 0
 RemoveAnswer place (Ok Away) d ours = (is_named d.files place ≡ true) × IsOurs (Remove place) ours
 RemoveAnswer place (Ok Absent) d ours = (is_named d.files place ≡ false) × (ours ≡ [])
 RemoveAnswer place (Err Failed) d ours = (ours ≡ []) ⊎ ((is_named d.files place ≡ true) × IsOurs (Remove place) ours)
 RemoveAnswer place (Err Memory) d ours = ours ≡ []
 
+-- the length of a file's bytes, where there is a file
 abbrev pub size_of : Option Held → Option ℕ
 size_of None = None
 size_of (Some held) = Some (length held.bytes)
 
+-- the size of the file at the place, and no event
 abbrev pub SizeAnswer : Parts → Result (Option ℕ) StoreErr → Disk → List Event → Type 0
 SizeAnswer place (Ok size) d ours = (size ≡ size_of (find d.files place)) × (ours ≡ [])
 SizeAnswer place (Err e) d ours = ours ≡ []
@@ -106,10 +113,12 @@ abbrev pub part_of : ℕ → ℕ → Option Held → Option (List ℕ)
 part_of from len None = None
 part_of from len (Some held) = Some (take len (drop from held.bytes))
 
+-- that part of the file at the place, and no event
 abbrev pub ReadAnswer : Parts → ℕ → ℕ → Result (Option (List ℕ)) StoreErr → Disk → List Event → Type 0
 ReadAnswer place from len (Ok bytes) d ours = (bytes ≡ part_of from len (find d.files place)) × (ours ≡ [])
 ReadAnswer place from len (Err e) d ours = ours ≡ []
 
+-- a file as a listing tells of it
 abbrev pub listed_of : Held → Listed
 listed_of held = record { place = held.place; ms = held.ms; size = length held.bytes }
 
@@ -118,6 +127,7 @@ pub record IsListing (dir : Parts) (files : List Held) (listed : List Listed) : 
   pub same : IsPermutation (map listed_of (filter (λ held. is_under held.place dir) files)) listed
   pub ordered : IsSortedByKey (λ l. l.place) (on joined (slice_cmp nat_cmp)) listed
 
+-- the listing of a directory, and no event
 abbrev pub NamesAnswer : Parts → Result (List Listed) StoreErr → Disk → List Event → Type 0
 NamesAnswer dir (Ok listed) d ours = IsListing dir d.files listed × (ours ≡ [])
 NamesAnswer dir (Err e) d ours = ours ≡ []
@@ -128,6 +138,7 @@ NamesAnswer dir (Err e) d ours = ours ≡ []
 abbrev pub Rose : ℕ → ℕ → Type 0
 Rose before now = min (before + 1) (2 ^ 64 - 1) ≤ now
 
+-- the count of faults doesn't fall, and rises where a call answers Failed
 pub record HasCause {T : Type 0} (before now : ℕ) (result : Result T StoreErr) : Type 0 where
   pub later : before ≤ now
   pub failed : IsErrOf result Failed → Rose before now

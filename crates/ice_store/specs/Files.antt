@@ -11,6 +11,7 @@ find files place = first (λ h. same_place h.place place) files
 abbrev pub is_named : List Held → Parts → Bool
 is_named files place = is_some (find files place)
 
+-- the files that stand elsewhere
 abbrev pub without : List Held → Parts → List Held
 without files place = filter (λ h. not (same_place h.place place)) files
 
@@ -23,9 +24,11 @@ changed change (held ∷ files) place = if same_place held.place place then chan
 abbrev pub put : Held → List Held → List Held
 put held files = without files held.place ++ held ∷ []
 
+-- a file at another place
 abbrev pub moved : Parts → Held → Held
 moved to held = record held { place = to }
 
+-- a file that is there, at another place, where then no other stands
 abbrev pub renamed_by : Option Held → Parts → Parts → List Held → List Held
 renamed_by None from to files = files
 renamed_by (Some held) from to files = put (moved to held) (without files from)

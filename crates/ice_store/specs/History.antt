@@ -20,12 +20,15 @@ pub record Disk : Type 0 where
   pub files : List Held
   pub pending : List NameChange
 
+-- an empty unsealed file, and who made it when
 abbrev pub new_file : Parts → Who → ℕ → Held
 new_file place who ms = record { place = place; bytes = []; ms = ms; is_sealed = false; maker = Some who }
 
+-- a file with more bytes, whose moment is that of the append
 abbrev pub appended : List ℕ → ℕ → Held → Held
 appended more ms held = record held { bytes = held.bytes ++ more; ms = ms }
 
+-- a file whose bytes a crash keeps
 abbrev pub sealed : Held → Held
 sealed held = record held { is_sealed = true }
 
@@ -38,6 +41,7 @@ files_after files (Rename from to) who ms = renamed from to files
 files_after files (Remove place) who ms = without files place
 files_after files SyncNames who ms = files
 
+-- the removal of a file, where there is one
 abbrev pub removal : Option Held → List NameChange
 removal None = []
 removal (Some held) = Removed held ∷ []
@@ -56,9 +60,11 @@ abbrev pub pending_by : Who → Disk → Step → List NameChange
 pending_by Us d step = pending_after d step
 pending_by Them d step = []
 
+-- the files and pending name changes after an event
 abbrev pub disk_after : Disk → Event → Disk
 disk_after d event = record { files = files_after d.files event.step event.who event.ms; pending = pending_by event.who d event.step }
 
+-- the same after a list of events, in their order
 abbrev pub replay_from : Disk → List Event → Disk
 replay_from d [] = d
 replay_from d (event ∷ events) = replay_from (disk_after d event) events
@@ -72,6 +78,7 @@ abbrev pub base_from : List Held → List FileRec → List Held
 base_from files [] = files
 base_from files (file ∷ more) = base_from (if is_named files file.place then files else files ++ durable file ∷ []) more
 
+-- what the history leaves: its base, changed by its events in their order
 abbrev pub replay : Past → Disk
 replay past = replay_from (record { files = base_from [] past.base; pending = [] }) past.events
 

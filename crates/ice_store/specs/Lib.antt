@@ -5,3 +5,4 @@ pub mod Others
 pub mod Calls
 pub mod Given
 pub mod Since
+pub mod Numbers

@@ -1,5 +1,5 @@
 -- Others act between two calls, as their manners allow.
-use Rattle.std.specs.Prelude.{◌≡◌, ℕ, ◌+◌, ◌-◌, ◌^◌, min, List, [], ◌∷◌, Option, Some, None}
+use Rattle.std.specs.Prelude.{◌≡◌, ℕ, List, [], ◌∷◌, Option, Some, None}
 use Rattle.ice_store.specs.History.{Disk, later, replay}
 use Rattle.ice_store.specs.declared.history.Event.{Event}
 use Rattle.ice_store.specs.declared.history.Past.{Past}
@@ -42,12 +42,3 @@ Answers allows (Some old) new P = Answered allows old new P
 -- one event of ours
 abbrev pub IsOurs : Step → List Event → Type 0
 IsOurs step events = (ms : ℕ) × (events ≡ record { who = Us; step = step; ms = ms } ∷ [])
-
--- the moment after one, which stands still at its type's end
-abbrev pub next_moment : ℕ → ℕ
-next_moment ms = min (ms + 1) (2 ^ 64 - 1)
-
--- steps of Them, from a moment on
-abbrev pub by_them : ℕ → List Step → List Event
-by_them ms [] = []
-by_them ms (step ∷ steps) = record { who = Them; step = step; ms = ms } ∷ by_them (next_moment ms) steps

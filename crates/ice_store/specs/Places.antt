@@ -9,6 +9,7 @@ use Rattle.ice_store.specs.declared.place.PlaceErr.TheVariants.{Bad, Memory}
 abbrev pub Parts : Type 0
 Parts = List (List ℕ)
 
+-- whether two places have the same parts
 abbrev pub same_place : Parts → Parts → Bool
 same_place = pointwise (pointwise nat_eq)
 
@@ -35,6 +36,7 @@ abbrev pub pieces : List ℕ → Parts
 pieces [] = [] ∷ []
 pieces (b ∷ bs) = if nat_eq b 47 then [] ∷ pieces bs else onto_first b (pieces bs)
 
+-- whether a part has a byte
 abbrev pub is_filled : List ℕ → Bool
 is_filled [] = Bool.false
 is_filled (b ∷ bs) = Bool.true
@@ -48,6 +50,7 @@ abbrev pub first_barred : ℕ → Parts → Option ℕ
 first_barred at [] = None
 first_barred at (piece ∷ pieces) = if is_barred piece then Some at else first_barred (at + length piece + 1) pieces
 
+-- the offset of a fault, where there is one, and else the parts
 abbrev pub unless : Option ℕ → Parts → Result Parts ℕ
 unless None parts = Ok parts
 unless (Some at) parts = Err at
@@ -56,6 +59,7 @@ unless (Some at) parts = Err at
 abbrev pub parts_from : ℕ → List ℕ → Result Parts ℕ
 parts_from at text = unless (first_barred at (pieces text)) (filter is_filled (pieces text))
 
+-- whether a text begins with another
 abbrev pub begins : List ℕ → List ℕ → Bool
 begins text front = starts_with nat_eq text front
 
@@ -100,6 +104,7 @@ AddsPiece piece at old new (Ok u) = (is_barred piece ≡ Bool.false) × (new ≡
 AddsPiece piece at old new (Err (Bad where_)) = (is_barred piece ≡ Bool.true) × (where_ ≡ at)
 AddsPiece piece at old new (Err Memory) = Unit {0}
 
+-- what was read of a text stands behind the parts before it; or its fault is told
 abbrev pub AddsParts : Result Parts ℕ → Parts → Parts → Result (Unit {0}) PlaceErr → Type 0
 AddsParts defined old new (Ok u) = below old defined ≡ Ok new
 AddsParts defined old new (Err (Bad at)) = defined ≡ Err at

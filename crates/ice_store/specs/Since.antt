@@ -2,6 +2,7 @@
 use Rattle.std.specs.Prelude.{◌≡◌, Option, Some, None}
 use Rattle.ice_store.specs.declared.history.Past.{Past}
 
+-- the history is told at the exit, and a relation to that at the entry holds
 pub record SinceTold (old : Past) (new : Option Past) (R : Past → Past → Type 0) : Type 0 where
   pub now : Past
   pub is : new ≡ Some now

@@ -7,7 +7,7 @@ pub trait Clock {
     /// The moments given so far, where they are told.
     ghost given: { Self → Option (List ℕ) };
 
-    /// The moment now, in milliseconds since 1970 UTC, at most 9223372036854775807.
+    /// The moment now, in milliseconds since 1970 UTC, at most `LARGEST_LONG`.
     fn now_ms(&mut self) -> u64
         ensures given { Gives (given self.old) (given self.new) result }
         ensures small { result < 2 ^ 63 };

@@ -1,5 +1,5 @@
 //! The interface of a store: the files of a directory, which other writers may change between two calls.
-ghost use Rattle.std.specs.Prelude.{◌≡◌, ℕ, Option, IfOk};
+ghost use Rattle.std.specs.Prelude.{◌≡◌, ℕ, Option};
 ghost use Rattle.std.specs.Cmp.Lexicographic.{pointwise, slice_cmp};
 ghost use Rattle.std.specs.Ordering.{nat_cmp, as_partial_cmp, on};
 ghost use Rattle.std.specs.Prelude.{nat_eq};
@@ -10,11 +10,11 @@ ghost use Rattle.ice_store.specs.Places.{joined};
 ghost use Rattle.ice_store.specs.declared.history.Past.{Past as Told};
 ghost use Rattle.ice_store.specs.declared.history.Step.{Step as Kind};
 ghost use Rattle.ice_store.specs.declared.store.StoreErr.TheVariants.{Memory};
-ghost use Rattle.ice_store.specs.Others.{Answers, Stands, Allowed, by_them};
+ghost use Rattle.ice_store.specs.Others.{Answers, Stands};
 ghost use Rattle.ice_store.specs.Calls.{IsUnmoved, IsOpen, CanRename, IsSettled, CreateAnswer, AppendAnswer, PlainAnswer, RenameAnswer, RemoveAnswer, SizeAnswer, NamesAnswer, ReadAnswer, HasCause, MarksFailure};
 
-use crate::{Bytes, Items, Past, Place, Step, StepList};
-use std::alloc::{AllocError, Global};
+use crate::{Bytes, Items, Place};
+use std::alloc::AllocError;
 use std::cmp::Ordering;
 
 /// What other writers may do: a relation between a history and a step, which contracts alone see.
@@ -28,31 +28,6 @@ pub struct Alone;
 
 impl Manners for Alone {
     ghost allows = { λ _ _ _. ⊥ };
-}
-
-/// Another writer, who acts before a call of a store in memory.
-pub trait Neighbour<M: Manners> {
-    ghost manners: { Self → M };
-
-    /// The steps that it does now. They take the moments from `next_ms` on, and each is allowed by its manners after the
-    /// ones before it.
-    fn act(&mut self, alloc: Global, past: &Past, next_ms: u64) -> Result<StepList, AllocError>
-        ensures allowed { IfOk result (λ steps. Allowed (M.allows (manners self.old)) past.now (by_them next_ms steps)) }
-        ensures manners { manners self.new ≡ manners self.old };
-}
-
-/// A neighbour that does nothing.
-#[derive(Debug, Drop, Clone, Copy)]
-pub struct Quiet<M> {
-    pub manners: M,
-}
-
-impl<M: Manners> Neighbour<M> for Quiet<M> {
-    ghost manners = { λ q. q.manners };
-
-    fn act(&mut self, alloc: Global, _past: &Past, _next_ms: u64) -> Result<StepList, AllocError> {
-        Ok(Items::empty(alloc))
-    }
 }
 
 /// Why a call of a store did not do its work.

@@ -1,7 +1,4 @@
-use crate::{
-    Alone, Bytes, NameChange, Held, Items, Neighbour, Past, Place, PlaceErr, Quiet, Step, Text, Who,
-    is_part,
-};
+use crate::{Bytes, Held, Items, NameChange, Place, PlaceErr, Step, Text, Who, is_part};
 use std::alloc::Global;
 use std::cmp::Ordering;
 use std::test::Fail;
@@ -199,7 +196,8 @@ fn parts_have_names(rt: HostRuntime) -> Result<(), Fail> {
 #[test]
 fn bytes_have_parts(rt: HostRuntime) -> Result<(), Fail> {
     let alloc = rt.alloc();
-    let bytes = bytes_of(alloc, "abcd")?.with(b"ef")?;
+    let mut bytes = bytes_of(alloc, "abcd")?;
+    bytes.extend(b"ef")?;
     assert_eq!(rt; bytes.copy()?.len(), 6);
     for (from, len, want) in [
         (0, 3, "abc"),
@@ -236,17 +234,5 @@ fn records_are_copied(rt: HostRuntime) -> Result<(), Fail> {
     items.push(5)?;
     assert_eq!(rt; items.pop(), Some(5));
     assert!(rt; items.len() == 1 && items.inner()[0] == 4);
-    Ok(())
-}
-
-#[test]
-fn a_quiet_neighbour_does_nothing(rt: HostRuntime) -> Result<(), Fail> {
-    let alloc = rt.alloc();
-    let past = Past {
-        base: Items::empty(alloc),
-        events: Items::empty(alloc),
-    };
-    let mut quiet = Quiet { manners: Alone };
-    assert_eq!(rt; quiet.act(alloc, &past, 1)?.len(), 0);
     Ok(())
 }

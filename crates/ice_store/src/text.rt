@@ -1,5 +1,5 @@
 //! Texts and bytes: a `Vec<u8>` that contracts see as the list of its bytes.
-ghost use Rattle.std.specs.Prelude.{◌≡◌, ◌++◌, length, take, drop, IfOk, nat_eq};
+ghost use Rattle.std.specs.Prelude.{◌≡◌, ◌++◌, length, take, drop, IfOk, OnOk, OnErr, nat_eq};
 ghost use Rattle.std.specs.Cmp.Lexicographic.{pointwise, slice_cmp};
 ghost use Rattle.std.specs.Ordering.{nat_cmp, as_partial_cmp};
 ghost use Rattle.std.proofs.Common.{rules};
@@ -162,13 +162,12 @@ impl Bytes {
         self.clone()
     }
 
-    /// These bytes, and more behind them.
-    pub fn with(&self, more: &[u8]) -> Result<Bytes, AllocError>
-        ensures { IfOk result (λ b. b ≡ self.now ++ more.now) }
+    /// Adds bytes at the end. Without memory the bytes stay as they were.
+    pub fn extend(&mut self, more: &[u8]) -> Result<(), AllocError>
+        ensures ok { OnOk result (self.new ≡ self.old ++ more.now) }
+        ensures err { OnErr result (self.new ≡ self.old) }
     {
-        let mut inner = self.inner.clone()?;
-        inner.extend_from_slice(more)?;
-        Ok(Bytes { inner })
+        self.inner.extend_from_slice(more)
     }
 
     /// The bytes from the offset `from` on: `len` of them, or all that there are where these are fewer.

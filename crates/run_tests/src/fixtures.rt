@@ -1,8 +1,8 @@
 //! A table with three snapshots, and runs over it in memory. What a run left is looked at as a text.
-use ice_store::{Alone, Bytes, FileRec, Items, Place, Quiet, Step, Text};
+use ice_store::{Alone, Bytes, FileRec, Items, Place, Step, Text};
 use std::alloc::{AllocError, Global};
 use std::test::Fail;
-use store_memory::{CountIds, FailAt, FixedClock, MemSink, MemStore};
+use store_memory::{CountIds, FailAt, FixedClock, MemSink, MemStore, Quiet};
 use upkeep_top::{Outcome, run};
 
 pub(crate) type Solo = MemStore<Quiet<Alone>>;
