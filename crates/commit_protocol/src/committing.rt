@@ -50,7 +50,7 @@ pub(crate) struct Parted {
     meta: Meta,
 }
 
-fn parted(alloc: Global, at: At) -> Result<Parted, AllocError>
+fn take_apart(alloc: Global, at: At) -> Result<Parted, AllocError>
     ensures base { IfOk result (λ p. IsOn p.base at) }
     ensures utf8 { IfOk result (λ p. IsUtf8 p.base.previous) }
     ensures meta { IfOk result (λ p. p.meta ≡ at.meta) }
@@ -244,7 +244,7 @@ fn attempt_on<M: Manners, S: Store<M>, I: Ids, X: Change<M>>(
     if !at.meta.has_version_limit() {
         return Err(unreadable_limit(alloc, at.place));
     }
-    let Ok(parts) = parted(alloc, at) else {
+    let Ok(parts) = take_apart(alloc, at) else {
         return Err(CommitErr::Attempt(AttemptErr::Read(ReadErr::Memory)));
     };
     let base = parts.base;

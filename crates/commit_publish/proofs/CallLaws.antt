@@ -1,5 +1,5 @@
 -- What each store call of an attempt leads to.
-use Rattle.std.proofs.Common.{◌≡◌, ◌⊎◌, inl, inr, ℕ, Bool, true, false, List, [], ◌∷◌, ◌++◌, take, Option, Some, Ok, Err, is_some, append_assoc, refl, sym, ap, ◌∙◌, subst}
+use Rattle.std.proofs.Common.{◌≡◌, inl, inr, ℕ, Bool, true, false, List, [], ◌∷◌, ◌++◌, take, Option, Some, Ok, Err, is_some, append_assoc, refl, sym, ap, ◌∙◌, subst}
 use Rattle.ice_store.specs.Places.{Parts}
 use Rattle.ice_store.specs.Files.{is_named}
 use Rattle.ice_store.specs.History.{Disk, replay, later}

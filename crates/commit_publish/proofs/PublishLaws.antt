@@ -3,7 +3,7 @@ use Rattle.std.proofs.Common.{◌≡◌, ◌⊎◌, inl, inr, List, [], ◌∷�
 use Rattle.ice_store.specs.Places.{Parts}
 use Rattle.ice_store.specs.declared.history.Past.{Past}
 use Rattle.ice_store.specs.declared.history.Step.{Step}
-use Rattle.ice_store.specs.declared.history.Step.TheVariants.{Create, Rename, Remove, SyncNames}
+use Rattle.ice_store.specs.declared.history.Step.TheVariants.{Create, Remove, SyncNames}
 use Rattle.ice_store.specs.declared.store.StoreErr.{StoreErr}
 use Rattle.ice_store.specs.declared.store.StoreErr.TheVariants.{Failed, Memory}
 use Rattle.commit_publish.specs.Stages.{Creating, AtRest, Exactly, Begun, BegunFill, Anything, Then, Partly, PartlyOrReaching, draft_plan, move_plan, drop_plan}

@@ -11,7 +11,7 @@ ghost use Rattle.ice_store.specs.Calls.{Rose};
 ghost use Rattle.commit_publish.specs.Left.{LeavesDraft, PublishNotes, TellsRename};
 ghost use Rattle.commit_publish.specs.Logs.{PublishRose, WriteRose, IsMadeBy, LeftBy, committed_by, left_by_move, left_by_drop, is_failed, fault_from, unknown_from};
 
-use crate::steps::{FailedCall, StepErr, Route, drop_draft, fill_draft, make_draft, move_draft};
+use crate::steps::{FailedCall, Route, StepErr, drop_draft, fill_draft, make_draft, move_draft};
 use commit_history::TableReading;
 use ice_store::{Made, Manners, Moved, Place, Store, StoreErr};
 
