@@ -10,7 +10,7 @@ use Rattle.ice_store.specs.declared.history.Past.{Past}
 use Rattle.ice_store.specs.declared.history.Step.{Step}
 use Rattle.ice_store.specs.declared.faults.ReadErr.TheVariants.{Missing, Damaged, Unsupported, StoreFault, Memory}
 use Rattle.table_metadata.specs.Edits.{HasVersionLimit, next_version, kept_versions, version_limit}
-use Rattle.table_metadata.specs.View.{location_of}
+use Rattle.metadata_view.specs.View.{location_of}
 use Rattle.table_metadata.proofs.EditLaws.{stays-next}
 use Rattle.commit_history.specs.Mannered.{IsMannered}
 use Rattle.commit_history.specs.Readings.{rules_of}
@@ -169,7 +169,7 @@ module _ (table : Parts) (allows : Past → Step → Type 0) (mannered : IsManne
     unwritten_err (attempts.Read (Missing place)) old new is idle at on limit = absurd is
     unwritten_err (attempts.Read (Damaged place where_)) old new is idle at on limit = absurd is
     unwritten_err (attempts.Read (Unsupported place what)) old new is idle at on limit =
-        inr (is.0, limit, record { id = id; drawn = drawn; place_is = is.1; next = next_tree base built now; is = record { built = built; changed = refl; is = next_is at on }; long = is.2 }, idle)
+        inr (is.0, (limit, record { id = id; drawn = drawn; place_is = is.1; next = next_tree base built now; is = record { built = built; changed = refl; is = next_is at on }; long = is.2 }, idle))
     unwritten_err (attempts.Read (StoreFault place)) old new is idle at on limit = absurd is
     unwritten_err (attempts.Read Memory) old new is idle at on limit = inl idle
 
@@ -184,7 +184,7 @@ module _ (table : Parts) (allows : Past → Step → Type 0) (mannered : IsManne
     memory_by K old here = inl (starts K old here)
 
     pub unlimited_by : (e : CommitErr) (K : Past → Type 0) (old : Past) → TellsLimit at.place e → (HasVersionLimit (view at.meta) → ⊥) → K old → Leaves_ (Err e) old old
-    unlimited_by e K old (inl is) none here = subst (λ (x : CommitErr). Leaves_ (Err x) old old) (sym is) (inr (refl, refl, none, starts K old here))
+    unlimited_by e K old (inl is) none here = subst (λ (x : CommitErr). Leaves_ (Err x) old old) (sym is) (inr (refl, (refl, none, starts K old here)))
     unlimited_by e K old (inr is) none here = subst (λ (x : CommitErr). Leaves_ (Err x) old old) (sym is) (inl (starts K old here))
 
   module _ (at : At) (base : Base) (on : IsOn base at) (meanings : Meanings) where
@@ -254,11 +254,11 @@ module _ (table : Parts) (allows : Past → Step → Type 0) (mannered : IsManne
       attempt_then (Err (Attempt (attempts.NameTaken place))) (inr b) = inr (record { limit = limit; drafted = turned b.drafted; place_is = b.place_is; left = moved b.drafted (Err publishes.NameTaken) b.left })
       attempt_then (Err (Attempt (attempts.Read (Missing place)))) b = absurd b.refuses_it
       attempt_then (Err (Attempt (attempts.Read (Damaged place where_)))) (inl b) = absurd b.refuses_it
-      attempt_then (Err (Attempt (attempts.Read (Damaged place where_)))) (inr b) = absurd (b.2 limit)
+      attempt_then (Err (Attempt (attempts.Read (Damaged place where_)))) (inr b) = absurd (b.1.1 limit)
       attempt_then (Err (Attempt (attempts.Read (Unsupported place what)))) (inl b) = absurd b.refuses_it
       attempt_then (Err (Attempt (attempts.Read (Unsupported place what)))) (inr b) =
-          let t = b.2 in
-          inr (b.0, limit, record { id = t.id; drawn = t.drawn; place_is = t.place_is; next = t.next; is = record { built = t.is.built; changed = subst (λ (d : Data). meanings.successor (view at.meta) d) (sym t.is.changed) change_is; is = t.is.is }; long = t.long }, idle_on b.3)
+          let t = b.1.1 in
+          inr (b.0, (limit, record { id = t.id; drawn = t.drawn; place_is = t.place_is; next = t.next; is = record { built = t.is.built; changed = subst (λ (d : Data). meanings.successor (view at.meta) d) (sym t.is.changed) change_is; is = t.is.is }; long = t.long }, idle_on b.1.2))
       attempt_then (Err (Attempt (attempts.Read (StoreFault place)))) (inl b) = absurd b.refuses_it
       attempt_then (Err (Attempt (attempts.Read (StoreFault place)))) (inr b) = inr (record { call = b.call; drafted = turned b.drafted; place_is = b.place_is; left = moved b.drafted (Err (publishes.Fault b.call)) b.left })
       attempt_then (Err (Attempt (attempts.Read Memory))) (inl b) = inl (idle_on b)

@@ -100,7 +100,7 @@ module _ (table : Parts) (allows : Past → Step → Type 0) (meanings : Meaning
   Told = CommitLeaves table allows meanings Drawn now r
 
   steps : (old new : Past) → Told old new → Steps table allows (λ l. Unit {0}) old new
-  steps old new h = commit_steps (metadata_rules table allows) meanings Drawn table now r old new h
+  steps old new h = commit_steps table allows meanings Drawn now r old new h
 
   pub stops_have_prefix : Since o a Told → Since o a (StopsHavePrefix table)
   stops_have_prefix told = since_turned o a Told (StopsHavePrefix table) told (λ old new h whole. prefixes table allows (λ l. Unit {0}) old whole new (steps old new h))

@@ -114,9 +114,9 @@ module _ (table : Parts) (allows : Past → Step → Type 0) where
       attempt_steps (Err (Attempt (attempts.NameTaken place))) (inr a) = publish_steps a.drafted.route a.drafted.bytes (Err publishes.NameTaken) old new a.left
       attempt_steps (Err (Attempt (attempts.Read (Missing place)))) a = idle a.idle
       attempt_steps (Err (Attempt (attempts.Read (Damaged place where_)))) (inl a) = idle a.idle
-      attempt_steps (Err (Attempt (attempts.Read (Damaged place where_)))) (inr a) = idle a.3
+      attempt_steps (Err (Attempt (attempts.Read (Damaged place where_)))) (inr a) = idle a.1.2
       attempt_steps (Err (Attempt (attempts.Read (Unsupported place what)))) (inl a) = idle a.idle
-      attempt_steps (Err (Attempt (attempts.Read (Unsupported place what)))) (inr a) = idle a.3
+      attempt_steps (Err (Attempt (attempts.Read (Unsupported place what)))) (inr a) = idle a.1.2
       attempt_steps (Err (Attempt (attempts.Read (StoreFault place)))) (inl a) = idle a.idle
       attempt_steps (Err (Attempt (attempts.Read (StoreFault place)))) (inr a) = publish_steps a.drafted.route a.drafted.bytes (Err (publishes.Fault a.call)) old new a.left
       attempt_steps (Err (Attempt (attempts.Read Memory))) (inl a) = idle a

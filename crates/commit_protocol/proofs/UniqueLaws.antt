@@ -19,7 +19,7 @@ use Rattle.commit_history.proofs.Numbering.{numbering}
 use Rattle.metadata_form.specs.declared.fault.Fault.{Fault}
 use Rattle.table_metadata.specs.Spelling.{Spells}
 use Rattle.table_metadata.proofs.SpellingLaws.{one_fault, no_fault_of}
-use Rattle.table_metadata.specs.View.{location_of}
+use Rattle.metadata_view.specs.View.{location_of}
 use Rattle.table_metadata.specs.Edits.{HasVersionLimit, next_version}
 use Rattle.commit_versions.specs.Names.{version_text_of}
 use Rattle.commit_versions.specs.Opening.{FileIs, IsBeyond, file_limit}

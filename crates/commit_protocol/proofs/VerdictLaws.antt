@@ -1,5 +1,5 @@
 -- Where nobody else acts, what a call tells by its answer is the answer's exact cause in the files at the entry.
-use Rattle.std.proofs.Common.{◌≡◌, inl, inr, ℕ, ◌<◌, ◌≤◌, Bool, true, false, List, [], ◌∷◌, ◌++◌, length, Result, Ok, Err, refl, sym, ◌∙◌, subst, arith}
+use Rattle.std.proofs.Common.{◌≡◌, inl, inr, ℕ, ◌+◌, ◌<◌, ◌≤◌, Bool, true, false, List, [], ◌∷◌, ◌++◌, length, Result, Ok, Err, refl, sym, ◌∙◌, subst, arith}
 use Rattle.serde_json.specs.Data.{Data}
 use Rattle.serde_json.specs.View.{view}
 use Rattle.ice_store.specs.Places.{Parts}
@@ -200,12 +200,12 @@ module _ (table : Parts) (allows : Past → Step → Type 0) (nobody : IsNobody 
       attempt_ends (Err (Attempt (attempts.Read (Missing place)))) a = refused (attempts.Read (Missing place)) a
       attempt_ends (Err (Attempt (attempts.Read (Damaged place where_)))) (inl a) = let r = refused (attempts.Read (Damaged place where_)) a in (r.0, inl r.1)
       attempt_ends (Err (Attempt (attempts.Read (Damaged place where_)))) (inr a) =
-          let it : IsUnlimited table (replay old).files at.place = record { last = at.version; bytes = at.text; tree = view at.meta; is = table_at at old mid opened; unlimited = a.2 } in
-          (still a.3, inr (a.0, subst (λ (p : Parts). IsUnlimited table (replay old).files p) (sym a.1) it))
+          let it : IsUnlimited table (replay old).files at.place = record { last = at.version; bytes = at.text; tree = view at.meta; is = table_at at old mid opened; unlimited = a.1.1 } in
+          (still a.1.2, inr (a.0, subst (λ (p : Parts). IsUnlimited table (replay old).files p) (sym a.1.0) it))
       attempt_ends (Err (Attempt (attempts.Read (Unsupported place what)))) (inl a) = (still a.idle, on_base _ a.limit (inl a.refuses_it))
       attempt_ends (Err (Attempt (attempts.Read (Unsupported place what)))) (inr a) =
-          let t = a.2 in
-          (still a.3, on_base _ a.1 (inr (a.0, record { id = t.id; drawn = t.drawn; place = t.place_is; next = t.next; is = t.is; length_is = t.long })))
+          let t = a.1.1 in
+          (still a.1.2, on_base _ a.1.0 (inr (a.0, record { id = t.id; drawn = t.drawn; place = t.place_is; next = t.next; is = t.is; length_is = t.long })))
       attempt_ends (Err (Attempt (attempts.Read (StoreFault place)))) a = (tt, tt)
       attempt_ends (Err (Attempt (attempts.Read Memory))) a = (tt, tt)
       attempt_ends (Err (Contended v)) a = absurd (lost a.2.drafted a.2.left)

@@ -11,7 +11,7 @@ use Rattle.ice_store.specs.declared.faults.ReadErr.{ReadErr}
 use Rattle.ice_store.specs.declared.faults.ReadErr.TheVariants.{Missing, Damaged, Unsupported, StoreFault, Memory}
 use Rattle.commit_history.specs.Runs.{Ran}
 use Rattle.table_metadata.specs.Spelling.{Spells}
-use Rattle.table_metadata.specs.View.{location_of}
+use Rattle.metadata_view.specs.View.{location_of}
 use Rattle.table_metadata.specs.Edits.{next_version, HasVersionLimit}
 use Rattle.commit_publish.specs.Stages.{Aim, Exactly, Anything}
 use Rattle.commit_versions.specs.Opening.{file_limit}

@@ -16,7 +16,7 @@ use Rattle.commit_history.specs.Versions.{number_in}
 use Rattle.metadata_form.specs.declared.fault.MetaCause.{MetaCause}
 use Rattle.metadata_form.specs.declared.fault.MetaCause.TheVariants.{NotJson, Fraction, Version, Field, NoManifestList, DoubleId, BrokenRef, BrokenParent}
 use Rattle.table_metadata.specs.Spelling.{Spells, HasFault}
-use Rattle.table_metadata.specs.View.{location_of}
+use Rattle.metadata_view.specs.View.{location_of}
 use Rattle.commit_versions.specs.Opening.{IsOpened, OpenLeaves, ReadErrLeaves}
 use Rattle.commit_versions.specs.Latest.{IsBaseNumber}
 use Rattle.commit_versions.specs.declared.types.Opened.{Opened}

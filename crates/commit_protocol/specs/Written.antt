@@ -10,7 +10,7 @@ use Rattle.ice_store.specs.declared.history.Step.{Step}
 use Rattle.ice_store.specs.declared.faults.What.TheVariants.{FileBytes}
 use Rattle.ice_store.specs.declared.faults.ReadErr.TheVariants.{Missing, Damaged, Unsupported, StoreFault, Memory}
 use Rattle.commit_history.specs.Versions.{number_in, folder}
-use Rattle.table_metadata.specs.View.{location_of}
+use Rattle.metadata_view.specs.View.{location_of}
 use Rattle.table_metadata.specs.Edits.{HasVersionLimit, next_version}
 use Rattle.commit_publish.specs.Stages.{Aim}
 use Rattle.commit_publish.specs.Left.{IsNaming, Notes}

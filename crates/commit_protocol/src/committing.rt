@@ -5,10 +5,8 @@ ghost use Rattle.ice_store.specs.Others.{WhereTold};
 ghost use Rattle.ice_store.specs.Places.{Parts, place_in};
 ghost use Rattle.ice_store.specs.Since.{Since};
 ghost use Rattle.serde_json.specs.View.{view};
-ghost use Rattle.serde_json.specs.Written.{compact_text};
-ghost use Rattle.table_metadata.specs.Edits.{HasVersionLimit, next_version};
-ghost use Rattle.table_metadata.specs.Spelling.{Spells};
-ghost use Rattle.table_metadata.specs.View.{location_of};
+ghost use Rattle.table_metadata.specs.Edits.{HasVersionLimit};
+ghost use Rattle.metadata_view.specs.View.{location_of};
 ghost use Rattle.commit_history.specs.Mannered.{IsMannered};
 ghost use Rattle.commit_history.specs.Versions.{number_in};
 ghost use Rattle.commit_publish.specs.Leaves.{Halts};
@@ -31,7 +29,7 @@ use commit_publish::{FailedCall, Log, PublishErr, Route, publish_version};
 use commit_versions::{FILE_LIMIT, draft_place, version_place, version_text};
 use ice_store::{Bytes, Ids, Manners, Place, ReadErr, Store, Text, What, Where};
 use std::alloc::{AllocError, Global};
-use table_metadata::{Meta, write_meta};
+use table_metadata::Meta;
 
 /// What a commit needs of its base once the base's metadata is given to the change.
 #[derive(Drop)]
@@ -66,18 +64,6 @@ fn take_apart(alloc: Global, at: At) -> Result<Parted, AllocError>
         base,
         meta: at.meta,
     })
-}
-
-// the written form of the next version's metadata
-fn next_bytes(alloc: Global, meta: Meta, previous: &Text, now: u64) -> Result<Bytes, AllocError>
-    requires utf8 { IsUtf8 previous.now }
-    requires moment { now < 2 ^ 63 }
-    requires limit { HasVersionLimit (view meta) }
-    ensures text { IfOk result (λ b. b ≡ compact_text (next_version previous.now now (view meta))) }
-    ensures spells { IfOk result (λ b. Spells b (next_version previous.now now (view meta))) }
-{
-    let next = meta.next_version(alloc, previous, now)?;
-    write_meta(alloc, &next)
 }
 
 fn route_of(alloc: Global, table: &Place, base: Base, draft: Place) -> Result<Route, AllocError>
@@ -124,7 +110,7 @@ fn draw_up(
     ensures ok { IfOk result (λ w. IsWritten table.now base (view meta) now id w) }
     ensures err { IfErr result (λ e. IsUnwritten table.now base (view meta) now id e) }
 {
-    let bytes = next_bytes(alloc, meta, &base.previous, now)?;
+    let bytes = meta.into_next_version_bytes(alloc, &base.previous, now)?;
     let draft = draft_place(alloc, table, id)?;
     if bytes.len() > FILE_LIMIT {
         return Err(AttemptErr::Read(ReadErr::Unsupported {

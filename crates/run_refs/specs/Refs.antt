@@ -1,8 +1,8 @@
 -- Where the refs of a table are (Iceberg table specification, "Snapshot References").
 use Rattle.std.specs.Prelude.{ℕ, ℤ, List, codes, Option, Some, None, option_map, if◌then◌else◌}
 use Rattle.serde_json.specs.Data.{Data}
-use Rattle.table_metadata.specs.View.{refs_of, ref_with}
-use Rattle.table_metadata.specs.declared.types.Ref.{Ref}
+use Rattle.metadata_view.specs.View.{refs_of, ref_with}
+use Rattle.metadata_view.specs.declared.types.Ref.{Ref}
 use Rattle.run_refs.specs.declared.goal.Goal.{Goal}
 use Rattle.run_refs.specs.declared.goal.Goal.TheVariants.{Rollback, SetCurrent, SetCurrentTo, FastForward}
 

@@ -2,7 +2,7 @@ use Rattle.std.proofs.Common.{◌≡◌, ◌<◌, ◌≤◌, ℕ, length, List, 
 use Rattle.ice_store.specs.Places.{place_in}
 use Rattle.serde_json.specs.View.{view}
 use Rattle.serde_json.specs.Written.{compact_text}
-use Rattle.table_metadata.specs.View.{location_of}
+use Rattle.metadata_view.specs.View.{location_of}
 use Rattle.commit_versions.specs.Opening.{file_limit}
 use Rattle.commit_protocol.specs.Written.{next_tree}
 use Rattle.commit_protocol.proofs.CommitLaws as laws

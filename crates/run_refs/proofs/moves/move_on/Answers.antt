@@ -3,8 +3,8 @@ use Rattle.std.proofs.lemmas.Int.{to_z-of_z}
 use Rattle.std.specs.Prelude.{IsSome}
 use Rattle.serde_json.specs.View.{view}
 use Rattle.table_metadata.specs.Edits.{with_ref}
-use Rattle.table_metadata.specs.View.{snapshots_of}
-use Rattle.table_metadata.specs.Walk.{snapshot_with}
+use Rattle.metadata_view.specs.View.{snapshots_of}
+use Rattle.metadata_view.specs.Walk.{snapshot_with}
 use Rattle.run_refs.specs.Moves.{Aim, Aims}
 use Rattle.run_refs.specs.Refs.{goal_ref, ref_at}
 use Rattle.run_refs.proofs.AimLaws.{known, moves_to}
