@@ -1,6 +1,7 @@
 //! The command over a real directory.
-use crate::fixtures::{clock, shown_sink, sink, three_snapshots};
+use crate::fixtures::{clock, shown_sink, sink};
 use ice_store::{Alone, Text};
+use metadata_tests::three_snapshots;
 use std::test::Fail;
 use std::{env, fs};
 use store_directory::DirStore;
