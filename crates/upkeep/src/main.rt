@@ -8,7 +8,6 @@ ghost use Rattle.std.specs.Prelude.{◌≡◌};
 ghost use Rattle.upkeep.specs.Numbers.{number_of};
 
 use ice_store::{Alone, Sink, Text};
-use std::alloc::AllocError;
 use std::env;
 use std::io::{self, ErrorKind};
 use std::process::ExitCode;
@@ -49,12 +48,6 @@ impl Unstarted {
     }
 }
 
-impl From<AllocError> for Unstarted {
-    fn from(_: AllocError) -> Self {
-        Unstarted::Memory
-    }
-}
-
 fn main(rt: HostRuntime) -> ExitCode {
     match answer(rt) {
         Ok(status) => ExitCode::from(status),
@@ -79,7 +72,9 @@ fn words_of(rt: &HostRuntime) -> Result<Vec<Text>, Unstarted> {
     })?;
     let mut words = Vec::new(rt.alloc());
     for arg in args.skip(1) {
-        words.push(Text::new(arg.into_bytes()))?;
+        if words.push(Text::new(arg.into_bytes())).is_err() {
+            return Err(Unstarted::Memory);
+        }
     }
     Ok(words)
 }
