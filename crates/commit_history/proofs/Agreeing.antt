@@ -7,12 +7,13 @@ use Rattle.ice_store.specs.Places.{Parts, same_place}
 use Rattle.ice_store.specs.Files.{find, is_named}
 use Rattle.ice_store.proofs.FileLaws.{by_test, place_decides, same_itself, find_head, find_tail}
 use Rattle.ice_store.specs.declared.history.Held.{Held}
-use Rattle.commit_history.specs.Tables.{version, table, table_at, sealed_at, sealed_bytes, GoodBy, ReachBy, Whole, IsGood, InReach, IsOutside, IsLocal, IsNumbering}
+use Rattle.commit_history.specs.Readings.{Reading, IsLocal}
+use Rattle.commit_history.specs.Tables.{version, table, table_at, sealed_at, sealed_bytes, Whole, IsGood, InReach, IsOutside, IsNumbering}
 
 -- gs has what counts in fs
-pub record Agrees (number : Parts → ℕ) (Reached : ReachBy) (fs gs : List Held) : Type 0 where
-  pub named : (p : Parts) → 0 < number p → is_named gs p ≡ is_named fs p
-  pub bytes : (p : Parts) (x : List ℕ) → (0 < number p) ⊎ InReach number Reached fs p → sealed_at fs p ≡ Some x → sealed_at gs p ≡ Some x
+pub record Agrees (reading : Reading) (fs gs : List Held) : Type 0 where
+  pub named : (p : Parts) → 0 < reading.number p → is_named gs p ≡ is_named fs p
+  pub bytes : (p : Parts) (x : List ℕ) → (0 < reading.number p) ⊎ InReach reading fs p → sealed_at fs p ≡ Some x → sealed_at gs p ≡ Some x
 
 pub named_file : (hs : List Held) (p : Parts) → is_named hs p ≡ true → (h : Held) × (find hs p ≡ Some h)
 named_file hs p there = elim (find hs p) as (λ o. find hs p ≡ o → (h : Held) × (find hs p ≡ Some h)) [
@@ -96,32 +97,33 @@ module _ (number : Parts → ℕ) where
   pub version_alike : (fs gs : List Held) → ((p : Parts) → 0 < number p → is_named gs p ≡ is_named fs p) → version number gs ≡ version number fs
   version_alike fs gs same = let a = half_version gs fs same in let b = half_version fs gs (λ p pos. sym (same p pos)) in omega (arith, a, b)
 
-  module _ (Reached : ReachBy) (fs gs : List Held) (agrees : Agrees number Reached fs gs) where
-    pub same_version : version number gs ≡ version number fs
-    same_version = version_alike fs gs agrees.named
+module _ (reading : Reading) where
+  module _ (fs gs : List Held) (agrees : Agrees reading fs gs) where
+    pub same_version : version reading.number gs ≡ version reading.number fs
+    same_version = version_alike reading.number fs gs agrees.named
 
-    module _ (Good : GoodBy) (ruled : IsNumbering number) (localized : IsLocal Good Reached) where
-      moved_good : (b : List ℕ) → table number fs ≡ Some b → (p : Parts) (x : List ℕ) → Reached b (sealed_at fs) p → sealed_at fs p ≡ Some x → sealed_at gs p ≡ Some x
+    module _ (ruled : IsNumbering reading.number) (localized : IsLocal reading) where
+      moved_good : (b : List ℕ) → table reading.number fs ≡ Some b → (p : Parts) (x : List ℕ) → reading.reached b (sealed_at fs) p → sealed_at fs p ≡ Some x → sealed_at gs p ≡ Some x
       moved_good b is p x reached at = agrees.bytes p x (inr (record { bytes = b; is = is; reached = reached })) at
 
-      same_table_at : IsGood number Good fs → 0 < version number fs → table number gs ≡ table number fs
+      same_table_at : IsGood reading fs → 0 < version reading.number fs → table reading.number gs ≡ table reading.number fs
       same_table_at good pos =
-          let at = version_named fs pos in
-          let here : table number fs ≡ sealed_at fs at.0 = table_is ruled fs at.0 at.1 pos in
+          let at = version_named reading.number fs pos in
+          let here : table reading.number fs ≡ sealed_at fs at.0 = table_is reading.number ruled fs at.0 at.1 pos in
           let kept : sealed_at gs at.0 ≡ Some good.bytes = agrees.bytes at.0 good.bytes (inl (omega (arith, at.1.is))) (sym here ∙ good.is) in
           let there : is_named gs at.0 ≡ true = agrees.named at.0 (omega (arith, at.1.is)) ∙ ap is_some at.1.stands in
           let file = named_file gs at.0 there in
-          let it : IsVersionPlace gs at.0 = record { is = at.1.is ∙ sym same_version; file = file.0; stands = file.1 } in
-          table_is ruled gs at.0 it (omega (arith, same_version)) ∙ kept ∙ sym good.is
+          let it : IsVersionPlace reading.number gs at.0 = record { is = at.1.is ∙ sym same_version; file = file.0; stands = file.1 } in
+          table_is reading.number ruled gs at.0 it (omega (arith, same_version)) ∙ kept ∙ sym good.is
 
-      same_none : version number fs ≡ 0 → table number gs ≡ table number fs
-      same_none e = no_table gs (same_version ∙ e) ∙ sym (no_table fs e)
+      same_none : version reading.number fs ≡ 0 → table reading.number gs ≡ table reading.number fs
+      same_none e = no_table reading.number gs (same_version ∙ e) ∙ sym (no_table reading.number fs e)
 
-      pub same_table : Whole number Good fs → table number gs ≡ table number fs
+      pub same_table : Whole reading fs → table reading.number gs ≡ table reading.number fs
       same_table (inl e) = same_none e
-      same_table (inr good) = elim (cases_lt 0 (version number fs)) [ inl pos ↦ same_table_at good pos | inr none ↦ same_none (omega arith) ]
+      same_table (inr good) = elim (cases_lt 0 (version reading.number fs)) [ inl pos ↦ same_table_at good pos | inr none ↦ same_none (omega arith) ]
 
-      pub still_whole : Whole number Good fs → Whole number Good gs
+      pub still_whole : Whole reading fs → Whole reading gs
       still_whole (inl e) = inl (same_version ∙ e)
       still_whole (inr good) = inr (record {
         bytes = good.bytes;
@@ -129,23 +131,23 @@ module _ (number : Parts → ℕ) where
         good = localized.stays good.bytes (sealed_at fs) (sealed_at gs) good.good (moved_good good.bytes good.is);
       })
 
-      no_reach : version number fs ≡ 0 → (p : Parts) → InReach number Reached gs p → ⊥
-      no_reach e p r = let k : None ≡ Some r.bytes = sym (no_table gs (same_version ∙ e)) ∙ r.is in absurd (cc (k))
+      no_reach : version reading.number fs ≡ 0 → (p : Parts) → InReach reading gs p → ⊥
+      no_reach e p r = let k : None ≡ Some r.bytes = sym (no_table reading.number gs (same_version ∙ e)) ∙ r.is in absurd (cc (k))
 
-      pub no_more_reach : Whole number Good fs → (p : Parts) → InReach number Reached gs p → InReach number Reached fs p
+      pub no_more_reach : Whole reading fs → (p : Parts) → InReach reading gs p → InReach reading fs p
       no_more_reach (inl e) p r = absurd (no_reach e p r)
       no_more_reach (inr good) p r =
           let k : Some r.bytes ≡ Some good.bytes = sym r.is ∙ same_table (inr good) ∙ good.is in
           let e : r.bytes ≡ good.bytes = cc (k) in
-          record { bytes = good.bytes; is = good.is; reached = localized.reach good.bytes (sealed_at fs) (sealed_at gs) good.good (moved_good good.bytes good.is) p (subst (λ (b : List ℕ). Reached b (sealed_at gs) p) e r.reached) }
+          record { bytes = good.bytes; is = good.is; reached = localized.reach good.bytes (sealed_at fs) (sealed_at gs) good.good (moved_good good.bytes good.is) p (subst (λ (b : List ℕ). reading.reached b (sealed_at gs) p) e r.reached) }
 
-      pub still_outside : Whole number Good fs → (p : Parts) → IsOutside number Reached fs p → IsOutside number Reached gs p
+      pub still_outside : Whole reading fs → (p : Parts) → IsOutside reading fs p → IsOutside reading gs p
       still_outside whole p out = record { no_version = out.no_version; unreached = λ r. out.unreached (no_more_reach whole p r) }
 
   -- a place of the reach is there
-  pub reach_there : (Good : GoodBy) (Reached : ReachBy) (localized : IsLocal Good Reached) (fs : List Held) (p : Parts) → Whole number Good fs → InReach number Reached fs p → (x : List ℕ) × (sealed_at fs p ≡ Some x)
-  reach_there Good Reached localized fs p (inl e) r = let k : None ≡ Some r.bytes = sym (no_table fs e) ∙ r.is in absurd (cc (k))
-  reach_there Good Reached localized fs p (inr good) r =
+  pub reach_there : (localized : IsLocal reading) (fs : List Held) (p : Parts) → Whole reading fs → InReach reading fs p → (x : List ℕ) × (sealed_at fs p ≡ Some x)
+  reach_there localized fs p (inl e) r = let k : None ≡ Some r.bytes = sym (no_table reading.number fs e) ∙ r.is in absurd (cc (k))
+  reach_there localized fs p (inr good) r =
       let k : Some r.bytes ≡ Some good.bytes = sym r.is ∙ good.is in
       let e : r.bytes ≡ good.bytes = cc (k) in
-      localized.there good.bytes (sealed_at fs) p good.good (subst (λ (b : List ℕ). Reached b (sealed_at fs) p) e r.reached)
+      localized.there good.bytes (sealed_at fs) p good.good (subst (λ (b : List ℕ). reading.reached b (sealed_at fs) p) e r.reached)

@@ -1,4 +1,5 @@
 pub mod Versions
+pub mod Readings
 pub mod Tables
 pub mod Commits
 pub mod Steady

@@ -11,10 +11,12 @@ use Rattle.ice_store.specs.declared.history.Step.{Step}
 use Rattle.ice_store.specs.declared.history.Step.TheVariants.{Create, Append, Seal, Rename, Remove, SyncNames}
 use Rattle.ice_store.specs.declared.history.Who.{Who}
 use Rattle.ice_store.specs.declared.history.Who.TheVariants.{Us, Them}
-use Rattle.commit_history.specs.Tables.{GoodBy, ReachBy, version, sealed_at}
+use Rattle.commit_history.specs.Readings.{Reading, Rules}
+use Rattle.commit_history.specs.Tables.{version, sealed_at}
 use Rattle.commit_history.specs.Commits.{standing, Reopens}
-use Rattle.commit_history.specs.Steady.{Steady}
+use Rattle.commit_history.specs.Steady.{IsSteady}
 
+-- these steps with one before them, where it is of Us
 abbrev pub ours_by : Who → Step → List Step → List Step
 ours_by Us step steps = step ∷ steps
 ours_by Them step steps = steps
@@ -39,26 +41,35 @@ IsProperStep number (Rename from to) d = (number from ≡ 0) × (0 < number to �
 IsProperStep number (Remove place) d = number place ≡ 0
 IsProperStep number SyncNames d = Unit {0}
 
-abbrev pub IsProperBy : (Parts → ℕ) → (Past → Step → Type 0) → Who → Step → Past → Type 0
-IsProperBy number allows Us step past = IsProperStep number step (replay past)
-IsProperBy number allows Them step past = allows past step
+-- a step of Us is proper, and one of Them is allowed
+abbrev pub IsProperBy : Rules → Who → Step → Past → Type 0
+IsProperBy rules Us step past = IsProperStep rules.reading.number step (replay past)
+IsProperBy rules Them step past = rules.allows past step
 
 -- each step of Us is proper where it is taken, and each step of Them is allowed there
-abbrev pub AllProper : (Parts → ℕ) → (Past → Step → Type 0) → Past → List Event → Type 0
-AllProper number allows past [] = Unit {0}
-AllProper number allows past (event ∷ events) = IsProperBy number allows event.who event.step past × AllProper number allows (later past (event ∷ [])) events
+abbrev pub AllProper : Rules → Past → List Event → Type 0
+AllProper rules past [] = Unit {0}
+AllProper rules past (event ∷ events) = IsProperBy rules event.who event.step past × AllProper rules (later past (event ∷ [])) events
 
--- a stop here is safe: the history is steady, and what any image has is whole and a prefix of the commits with every acknowledged one
-pub record IsSafe (number : Parts → ℕ) (Good : GoodBy) (Reached : ReachBy) (past : Past) : Type 0 where
-  pub steady : Steady number Good Reached (standing number past)
-  pub images : (files : List FileRec) → IsImage (replay past) files → Reopens number Good (standing number past) files
+-- each image that a stop may leave here is whole, and its table is the last of a prefix of the commits with every acknowledged one
+abbrev pub ImagesReopen : Reading → Past → Type 0
+ImagesReopen reading past = (files : List FileRec) → IsImage (replay past) files → Reopens reading (standing reading.number past) files
+
+-- a stop here is safe: the history is steady, and each image reopens
+pub record IsSafe (reading : Reading) (past : Past) : Type 0 where
+  pub steady : IsSteady reading past
+  pub images : ImagesReopen reading past
+
+-- a version file that was sealed keeps its bytes
+abbrev pub KeepsVersions : Reading → Past → Past → Type 0
+KeepsVersions reading old now = (place : Parts) (x : List ℕ) → 0 < reading.number place → sealed_at (replay old).files place ≡ Some x → sealed_at (replay now).files place ≡ Some x
 
 -- from the old history to this one each step was proper or allowed, and those of Us were these; sealed version files stayed as they were; from a steady history each stop was safe; and now K holds
-pub record Ran (number : Parts → ℕ) (Good : GoodBy) (Reached : ReachBy) (allows : Past → Step → Type 0) (Made : List Step → Type 0) (K : Past → Type 0) (old now : Past) : Type 0 where
+pub record Ran (rules : Rules) (Made : List Step → Type 0) (K : Past → Type 0) (old now : Past) : Type 0 where
   pub events : List Event
   pub is : now ≡ later old events
-  pub proper : AllProper number allows old events
+  pub proper : AllProper rules old events
   pub made : Made (ours events)
-  pub stays : (place : Parts) (x : List ℕ) → 0 < number place → sealed_at (replay old).files place ≡ Some x → sealed_at (replay now).files place ≡ Some x
-  pub safe : Steady number Good Reached (standing number old) → Along (IsSafe number Good Reached) old events
+  pub stays : KeepsVersions rules.reading old now
+  pub safe : IsSteady rules.reading old → Along (IsSafe rules.reading) old events
   pub stage : K now

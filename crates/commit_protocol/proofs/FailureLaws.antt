@@ -16,15 +16,15 @@ use Rattle.commit_versions.specs.declared.types.OpenErr.{OpenErr}
 use Rattle.commit_protocol.specs.Attempts.{TellsLimit}
 use Rattle.commit_protocol.specs.Failures.{IsFaultOf, IsUnknownEnd}
 use Rattle.commit_protocol.specs.Written.{IsUnwritten, commit_error_by, draft_at, version_at}
-use Rattle.commit_protocol.specs.declared.opening.At.{At}
+use Rattle.commit_protocol.specs.declared.committing.Base.{Base}
 use Rattle.commit_protocol.specs.declared.errors.AttemptErr.{AttemptErr}
 use Rattle.commit_protocol.specs.declared.errors.AttemptErr.TheVariants as attempts
 use Rattle.commit_protocol.specs.declared.errors.CommitErr.{CommitErr}
 use Rattle.commit_protocol.specs.declared.errors.CommitErr.TheVariants.{Open, Attempt, CommitUnknown}
 
 -- no call has failed where the new metadata file isn't drawn up, or a limit can't be read
-pub unwritten_plainly : (table : Parts) (at : At) (built : Data) (now id : ℕ) (e : AttemptErr) (place : Parts) → IsUnwritten table at built now id e → e ≡ attempts.Read (StoreFault place) → ⊥
-unwritten_plainly table at built now id e place u is = subst (λ (x : AttemptErr). IsUnwritten table at built now id x) is u
+pub unwritten_plainly : (table : Parts) (base : Base) (built : Data) (now id : ℕ) (e : AttemptErr) (place : Parts) → IsUnwritten table base built now id e → e ≡ attempts.Read (StoreFault place) → ⊥
+unwritten_plainly table base built now id e place u is = subst (λ (x : AttemptErr). IsUnwritten table base built now id x) is u
 
 pub limit_no_fault : (base : Parts) (e : CommitErr) (place : Parts) → TellsLimit base e → e ≡ Attempt (attempts.Read (StoreFault place)) → ⊥
 limit_no_fault base e place (inl told) is = absurd (cc (told, is))

@@ -7,3 +7,4 @@ pub mod UniqueLaws
 pub mod NoteLaws
 pub mod FailureLaws
 pub mod PromiseLaws
+pub mod ExactLaws

@@ -7,7 +7,7 @@ use Rattle.ice_store.specs.Places.{Parts}
 use Rattle.ice_store.specs.declared.history.Past.{Past}
 use Rattle.ice_store.specs.declared.history.Step.{Step}
 use Rattle.commit_history.specs.Runs.{Ran, ours}
-use Rattle.commit_history.specs.Tables.{GoodBy, ReachBy}
+use Rattle.commit_history.specs.Readings.{Rules}
 use Rattle.commit_history.proofs.Running.{ours-append}
 use Rattle.commit_publish.specs.Left.{IsMore, IsNaming, Notes, made_by}
 use Rattle.commit_publish.specs.Stages.{Exactly}
@@ -30,9 +30,9 @@ pub notes_named : (Risen : Type 0) (Drawn : ℕ → Type 0) (table draft target 
 notes_named Risen Drawn table draft target id version count had has old new drawn draft_is target_is n = notes_turned Risen (IsNaming draft target) (IsNamingOf Drawn table) count [] had has old new
     (λ step one. (id, (version, (drawn, subst (λ (t : Parts). IsNaming (draft_at table id) t step) target_is (subst (λ (d : Parts). IsNaming d target step) draft_is one))))) n
 
-module _ (number : Parts → ℕ) (Good : GoodBy) (Reached : ReachBy) (allows : Past → Step → Type 0) (Tried : Step → Type 0) where
+module _ (rules : Rules) (Tried : Step → Type 0) where
   -- no step leaves no place
-  pub notes_none : (Risen : Type 0) (K : Past → Type 0) (had has : List Parts) (old new : Past) → has ≡ had → Ran number Good Reached allows (Exactly []) K old new → Notes Risen Tried 0 [] had has old new
+  pub notes_none : (Risen : Type 0) (K : Past → Type 0) (had has : List Parts) (old new : Past) → has ≡ had → Ran rules (Exactly []) K old new → Notes Risen Tried 0 [] had has old new
   notes_none Risen K had has old new same run = record {
     left = [];
     noted = same ∙ sym (append-nil had);
@@ -40,7 +40,7 @@ module _ (number : Parts → ℕ) (Good : GoodBy) (Reached : ReachBy) (allows : 
   }
 
   -- behind calls that took no step
-  pub notes_after : (a b c : ℕ) → a ≤ b → (K : Past → Type 0) (count : ℕ) (had has : List Parts) (old mid new : Past) → Ran number Good Reached allows (Exactly []) K old mid
+  pub notes_after : (a b c : ℕ) → a ≤ b → (K : Past → Type 0) (count : ℕ) (had has : List Parts) (old mid new : Past) → Ran rules (Exactly []) K old mid
       → Notes (Rose b c) Tried count [] had has mid new → Notes (Rose a c) Tried count [] had has old new
   notes_after a b c le K count had has old mid new run n =
       let events = n.leaves.events in

@@ -5,7 +5,7 @@ use Rattle.ice_store.specs.Places.{Parts}
 use Rattle.ice_store.specs.declared.history.Past.{Past}
 use Rattle.ice_store.specs.declared.history.Step.{Step}
 use Rattle.ice_store.specs.declared.faults.ReadErr.TheVariants.{Missing, Damaged, Unsupported, StoreFault, Memory}
-use Rattle.commit_history.specs.Tables.{GoodBy, ReachBy}
+use Rattle.commit_history.specs.Versions.{number_in}
 use Rattle.commit_history.specs.Runs.{Ran}
 use Rattle.commit_history.proofs.Running.{ran_turned}
 use Rattle.commit_publish.specs.Stages.{Exactly, Anything, InState}
@@ -14,32 +14,32 @@ use Rattle.commit_versions.specs.Latest.{IsBaseNumber}
 use Rattle.commit_versions.specs.declared.types.Opened.{Opened}
 use Rattle.commit_versions.specs.declared.types.OpenErr.{OpenErr}
 use Rattle.commit_versions.specs.declared.types.OpenErr.TheVariants.{NoTable, LocationDiffers, Read}
-use Rattle.commit_protocol.specs.Metadata.{IsMetadata, ReadsTable, IsAt, OpenErrLeaves, TableLeaves}
+use Rattle.commit_protocol.specs.Metadata.{metadata_rules, IsMetadata, ReadsTable, IsAt, OpenErrLeaves, TableLeaves}
 use Rattle.commit_protocol.specs.declared.opening.At.{At}
 
-module _ (number : Parts → ℕ) (Good : GoodBy) (Reached : ReachBy) (allows : Past → Step → Type 0) (table : Parts) where
-  module _ (o : Opened) (old now : Past) (opened : IsOpened number Good Reached allows o.place o.text old now) (numbers : IsBaseNumber number o.place o.version) where
-    at_of : (at : At) → (at.place ≡ o.place) × (at.version ≡ o.version) × (at.text ≡ o.text) × IsMetadata table o.text (view at.meta) → IsAt number Good Reached allows table at old now
+module _ (table : Parts) (allows : Past → Step → Type 0) where
+  module _ (o : Opened) (old now : Past) (opened : IsOpened (metadata_rules table allows) o.place o.text old now) (numbers : IsBaseNumber (number_in table) o.place o.version) where
+    at_of : (at : At) → (at.place ≡ o.place) × (at.version ≡ o.version) × (at.text ≡ o.text) × IsMetadata table o.text (view at.meta) → IsAt table allows at old now
     at_of at (place, version, text, metadata) = record {
-      opened = subst (λ (p : Parts). IsOpened number Good Reached allows p at.text old now) (sym place) (subst (λ (t : List ℕ). IsOpened number Good Reached allows o.place t old now) (sym text) opened);
-      numbers = subst (λ (p : Parts). IsBaseNumber number p at.version) (sym place) (subst (λ (v : ℕ). IsBaseNumber number o.place v) (sym version) numbers);
+      opened = subst (λ (p : Parts). IsOpened (metadata_rules table allows) p at.text old now) (sym place) (subst (λ (t : List ℕ). IsOpened (metadata_rules table allows) o.place t old now) (sym text) opened);
+      numbers = subst (λ (p : Parts). IsBaseNumber (number_in table) p at.version) (sym place) (subst (λ (v : ℕ). IsBaseNumber (number_in table) o.place v) (sym version) numbers);
       metadata = subst (λ (t : List ℕ). IsMetadata table t (view at.meta)) (sym text) metadata;
     }
 
-    forgotten : Ran number Good Reached allows (Exactly []) Anything old now
-    forgotten = ran_turned number Good Reached allows (Exactly []) (Exactly []) (InState (OpenStage number o.place)) Anything old now opened.listed.run (λ l e. e) (λ h. tt)
+    forgotten : Ran (metadata_rules table allows) (Exactly []) Anything old now
+    forgotten = ran_turned (metadata_rules table allows) (Exactly []) (Exactly []) (InState (OpenStage (number_in table) o.place)) Anything old now opened.listed.run (λ l e. e) (λ h. tt)
 
-    pub table_by : (r : Result At OpenErr) → ReadsTable table o r → TableLeaves number Good Reached allows table r old now
+    pub table_by : (r : Result At OpenErr) → ReadsTable table o r → TableLeaves table allows r old now
     table_by (Ok at) r = at_of at r
     table_by (Err (NoTable place)) r = absurd r
     table_by (Err (LocationDiffers place location)) r = (r.0, (o.place, record { text = o.text; opened = opened; holds = r.1 }))
     table_by (Err (Read (Missing place))) r = absurd r
-    table_by (Err (Read (Damaged place at))) r = record { text = o.text; opened = subst (λ (p : Parts). IsOpened number Good Reached allows p o.text old now) (sym r.0) opened; holds = r.1 }
-    table_by (Err (Read (Unsupported place what))) r = inr (record { text = o.text; opened = subst (λ (p : Parts). IsOpened number Good Reached allows p o.text old now) (sym r.0) opened; holds = r.1 })
+    table_by (Err (Read (Damaged place at))) r = record { text = o.text; opened = subst (λ (p : Parts). IsOpened (metadata_rules table allows) p o.text old now) (sym r.0) opened; holds = r.1 }
+    table_by (Err (Read (Unsupported place what))) r = inr (record { text = o.text; opened = subst (λ (p : Parts). IsOpened (metadata_rules table allows) p o.text old now) (sym r.0) opened; holds = r.1 })
     table_by (Err (Read (StoreFault place))) r = absurd r
     table_by (Err (Read Memory)) r = forgotten
 
-  pub unopened_by : (e : OpenErr) (old now : Past) → OpenLeaves number Good Reached allows table (Err e) old now → OpenErrLeaves number Good Reached allows table e old now
+  pub unopened_by : (e : OpenErr) (old now : Past) → OpenLeaves (metadata_rules table allows) table (Err e) old now → OpenErrLeaves table allows e old now
   unopened_by (NoTable place) old now r = r
   unopened_by (LocationDiffers place location) old now r = absurd r
   unopened_by (Read (Missing place)) old now r = r

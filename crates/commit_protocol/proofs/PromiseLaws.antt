@@ -1,6 +1,5 @@
 -- What every stop of a commit leaves, and what a published version succeeds.
-use Rattle.std.proofs.Common.{◌≡◌, inl, ℕ, zero, suc, List, [], ◌∷◌, ◌++◌, take, Option, Result, Ok, Err, sym, subst}
-use Rattle.serde_json.specs.Data.{Data}
+use Rattle.std.proofs.Common.{◌≡◌, inl, ℕ, zero, suc, List, [], ◌∷◌, ◌++◌, take, Option, Some, Result, Ok, Err, ap, ◌∙◌, sym, subst}
 use Rattle.serde_json.specs.View.{view}
 use Rattle.ice_store.specs.Places.{Parts}
 use Rattle.ice_store.specs.History.{Disk, replay, later}
@@ -13,15 +12,15 @@ use Rattle.ice_store.specs.declared.history.Step.{Step}
 use Rattle.commit_history.specs.Versions.{number_in}
 use Rattle.commit_history.specs.Commits.{standing, IsLast}
 use Rattle.commit_history.specs.Steady.{IsSteady, Each, IsFreshChange}
-use Rattle.commit_history.specs.Tables.{Whole, table as table_in}
+use Rattle.commit_history.specs.Tables.{Whole, table as table_in, sealed_at}
 use Rattle.commit_history.specs.Runs.{Ran, Along, IsSafe}
 use Rattle.commit_history.proofs.Following.{standing_disk}
-use Rattle.commit_publish.specs.Stages.{Narrow, NoReach, Anything}
-use Rattle.commit_protocol.specs.Metadata.{IsTableOf}
+use Rattle.commit_publish.specs.Stages.{Anything, Holds}
+use Rattle.commit_protocol.specs.Metadata.{metadata_reading, metadata_rules}
+use Rattle.commit_protocol.specs.Meanings.{Meanings}
 use Rattle.commit_protocol.specs.Attempts.{CommitLeaves}
 use Rattle.commit_protocol.specs.Promises.{IsWholeAt, AtEachStop, HasPrefix, HasFiles, StopsHavePrefix, StopsHaveFiles, Succeeds}
 use Rattle.commit_protocol.specs.Verdicts.{IsNobody}
-use Rattle.commit_protocol.specs.declared.errors.AttemptErr.{AttemptErr}
 use Rattle.commit_protocol.specs.declared.errors.CommitErr.{CommitErr}
 use Rattle.commit_protocol.specs.declared.errors.Committed.{Committed}
 use Rattle.commit_protocol.specs.declared.errors.Committed.TheVariants.{Same, Published}
@@ -40,21 +39,21 @@ along_take K past (e ∷ es) (suc n) h = subst K (later-later past (e ∷ []) (t
 
 module _ (table : Parts) (allows : Past → Step → Type 0) (Made : List Step → Type 0) where
   abbrev pub Steps : Past → Past → Type 0
-  Steps = Ran (number_in table) (Narrow IsTableOf table) NoReach allows Made Anything
+  Steps = Ran (metadata_rules table allows) Made Anything
 
   module _ (old : Past) (whole : IsWholeAt table old) where
     on_disk : (K : Disk → Type 0) → K (replay old) → K (standing (number_in table) old).disk
     on_disk K here = subst K (sym (standing_disk (number_in table) old)) here
 
-    steady : IsSteady (number_in table) (Narrow IsTableOf table) NoReach old
+    steady : IsSteady (metadata_reading table) old
     steady = record {
-      whole = on_disk (λ d. Whole (number_in table) (Narrow IsTableOf table) d.files) whole.whole;
+      whole = on_disk (λ d. Whole (metadata_reading table) d.files) whole.whole;
       last = on_disk (λ d. IsLast ((standing (number_in table) old).acknowledged ++ (standing (number_in table) old).unacknowledged) (table_in (number_in table) d.files)) whole.last;
-      form = inl (subst (λ (cs : List NameChange). Each (IsFreshChange (number_in table) NoReach (standing (number_in table) old).disk.files) cs) (sym (on_disk (λ d. d.pending ≡ []) whole.at_rest)) tt);
+      form = inl (subst (λ (cs : List NameChange). Each (IsFreshChange (metadata_reading table) (standing (number_in table) old).disk.files) cs) (sym (on_disk (λ d. d.pending ≡ []) whole.at_rest)) tt);
     }
 
-    along : (new : Past) → (run : Steps old new) → (n : ℕ) → IsSafe (number_in table) (Narrow IsTableOf table) NoReach (later old (take n run.events))
-    along new run n = along_take (IsSafe (number_in table) (Narrow IsTableOf table) NoReach) old run.events n (run.safe steady)
+    along : (new : Past) → (run : Steps old new) → (n : ℕ) → IsSafe (metadata_reading table) (later old (take n run.events))
+    along new run n = along_take (IsSafe (metadata_reading table)) old run.events n (run.safe steady)
 
     pub prefixes : (new : Past) → Steps old new → AtEachStop old new (HasPrefix table)
     prefixes new run = record {
@@ -68,13 +67,15 @@ module _ (table : Parts) (allows : Past → Step → Type 0) (Made : List Step �
 
 -- Successors.
 
-module _ (table : Parts) (allows : Past → Step → Type 0) (nobody : IsNobody allows) (successor : Data → Data → Type 0) (same : Data → Type 0) (refuses : Data → AttemptErr → Type 0) (seen : Data → Type 0) (Drawn : ℕ → Type 0) (now : ℕ) where
-  pub succeeds : (r : Result Committed CommitErr) (old new : Past) → CommitLeaves (number_in table) (Narrow IsTableOf table) NoReach allows successor same refuses seen Drawn table now r old new → Succeeds successor table now r old new
+module _ (table : Parts) (allows : Past → Step → Type 0) (nobody : IsNobody allows) (meanings : Meanings) (Drawn : ℕ → Type 0) (now : ℕ) where
+  pub succeeds : (r : Result Committed CommitErr) (old new : Past) → CommitLeaves table allows meanings Drawn now r old new → Succeeds meanings.successor table now r old new
   succeeds (Ok (Same v)) old new a = tt
   succeeds (Ok (Published v)) old new a =
       let d = a.then.3.drafted in
-      let opened = opening_answered table (Narrow IsTableOf table) NoReach allows nobody (Ok a.at) old a.mid a.opened in
+      let opened = opening_answered table allows nobody (Ok a.at) old a.mid a.opened in
       let stage = a.then.3.left.stage in
+      let based : sealed_at (replay a.mid).files a.at.place ≡ Some a.at.text → sealed_at (replay a.mid).files d.route.base ≡ Some d.route.text =
+      λ e. subst (λ (p : Parts). sealed_at (replay a.mid).files p ≡ Some d.route.text) (sym d.base_is) (e ∙ ap (λ (t : List ℕ). Some t) (sym d.text_is)) in
       record {
         place = a.at.place;
         last = a.at.version;
@@ -87,18 +88,19 @@ module _ (table : Parts) (allows : Past → Step → Type 0) (nobody : IsNobody 
         next_is = d.writes.is;
         spells = d.writes.spells;
         acknowledged = stage.0;
-        behind = λ steady. stage.1 (record { steady = subst (λ (p : Past). IsSteady (number_in table) (Narrow IsTableOf table) NoReach p) (sym opened.0) steady; bytes = a.opened.opened.sealed steady });
+        behind = λ steady. subst (λ (t : List ℕ). Holds (standing (number_in table) new).acknowledged (Some t ∷ Some d.bytes ∷ [])) d.text_is
+            (stage.1 (record { steady = subst (λ (p : Past). IsSteady (metadata_reading table) p) (sym opened.0) steady; bytes = based (a.opened.opened.sealed steady) }));
       }
   succeeds (Err e) old new a = tt
 
 -- Of a commit, where its history is told.
 
-module _ (table : Parts) (allows : Past → Step → Type 0) (successor : Data → Data → Type 0) (same : Data → Type 0) (refuses : Data → AttemptErr → Type 0) (seen : Data → Type 0) (Drawn : ℕ → Type 0) (now : ℕ) (r : Result Committed CommitErr) (o a : Option Past) where
+module _ (table : Parts) (allows : Past → Step → Type 0) (meanings : Meanings) (Drawn : ℕ → Type 0) (now : ℕ) (r : Result Committed CommitErr) (o a : Option Past) where
   abbrev pub Told : Past → Past → Type 0
-  Told = CommitLeaves (number_in table) (Narrow IsTableOf table) NoReach allows successor same refuses seen Drawn table now r
+  Told = CommitLeaves table allows meanings Drawn now r
 
   steps : (old new : Past) → Told old new → Steps table allows (λ l. Unit {0}) old new
-  steps old new h = commit_steps (number_in table) (Narrow IsTableOf table) NoReach allows successor same refuses seen Drawn table now r old new h
+  steps old new h = commit_steps table allows meanings Drawn now r old new h
 
   pub stops_have_prefix : Since o a Told → Since o a (StopsHavePrefix table)
   stops_have_prefix told = since_turned o a Told (StopsHavePrefix table) told (λ old new h whole. prefixes table allows (λ l. Unit {0}) old whole new (steps old new h))
@@ -106,5 +108,5 @@ module _ (table : Parts) (allows : Past → Step → Type 0) (successor : Data �
   pub stops_have_files : Since o a Told → Since o a (StopsHaveFiles table)
   stops_have_files told = since_turned o a Told (StopsHaveFiles table) told (λ old new h whole. files table allows (λ l. Unit {0}) old whole new (steps old new h))
 
-  pub each_succeeds : IsNobody allows → Since o a Told → Since o a (Succeeds successor table now r)
-  each_succeeds nobody told = since_turned o a Told (Succeeds successor table now r) told (succeeds table allows nobody successor same refuses seen Drawn now r)
+  pub each_succeeds : IsNobody allows → Since o a Told → Since o a (Succeeds meanings.successor table now r)
+  each_succeeds nobody told = since_turned o a Told (Succeeds meanings.successor table now r) told (succeeds table allows nobody meanings Drawn now r)

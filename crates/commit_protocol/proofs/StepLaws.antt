@@ -9,17 +9,20 @@ use Rattle.ice_store.specs.declared.history.Step.TheVariants.{Rename, Remove, Sy
 use Rattle.ice_store.specs.declared.faults.What.TheVariants.{Codec, FormatVersion, Transform, SchemaSize, BlockBytes, ItemCount, FileBytes, GroupBytes, NoManifestList, VersionNumber, Sequence}
 use Rattle.ice_store.specs.declared.faults.ReadErr.{ReadErr}
 use Rattle.ice_store.specs.declared.faults.ReadErr.TheVariants.{Missing, Damaged, Unsupported, StoreFault, Memory}
-use Rattle.commit_history.specs.Tables.{GoodBy, ReachBy, version}
+use Rattle.commit_history.specs.Tables.{version}
+use Rattle.commit_history.specs.Versions.{number_in}
 use Rattle.commit_history.specs.Runs.{Ran}
 use Rattle.commit_history.proofs.Running.{ran_then, ran_turned}
-use Rattle.commit_publish.specs.Stages.{Anything, Exactly, InState, IsLost, IsBased, IsPublished, Partly, Reaching, draft_plan}
+use Rattle.commit_publish.specs.Stages.{Anything, Exactly, InState, IsLost, IsNameTaken, Publishes, Partly, Reaching, PartlyOrReaching, draft_plan, move_plan, drop_plan}
+use Rattle.commit_publish.specs.declared.steps.Route.{Route}
 use Rattle.commit_publish.specs.Leaves.{PublishLeaves}
 use Rattle.commit_publish.specs.declared.publish.PublishErr.{PublishErr}
 use Rattle.commit_publish.specs.declared.publish.PublishErr.TheVariants as publishes
 use Rattle.commit_versions.specs.Opening.{IsOpened, OpenStage, IsBeyond, IsLong, ReadErrLeaves}
 use Rattle.commit_versions.specs.declared.types.OpenErr.{OpenErr}
 use Rattle.commit_versions.specs.declared.types.OpenErr.TheVariants.{NoTable, LocationDiffers, Read}
-use Rattle.commit_protocol.specs.Metadata.{OpenErrLeaves}
+use Rattle.commit_protocol.specs.Meanings.{Meanings}
+use Rattle.commit_protocol.specs.Metadata.{OpenErrLeaves, metadata_reading, metadata_rules}
 use Rattle.commit_protocol.specs.Attempts.{PublishedBy, AttemptLeaves, CommitLeaves, Attempted}
 use Rattle.commit_protocol.specs.declared.opening.At.{At}
 use Rattle.commit_protocol.specs.declared.errors.AttemptErr.{AttemptErr}
@@ -29,29 +32,32 @@ use Rattle.commit_protocol.specs.declared.errors.CommitErr.TheVariants.{Open, At
 use Rattle.commit_protocol.specs.declared.errors.Committed.{Committed}
 use Rattle.commit_protocol.specs.declared.errors.Committed.TheVariants.{Same, Published}
 
-module _ (number : Parts → ℕ) (Good : GoodBy) (Reached : ReachBy) (allows : Past → Step → Type 0) where
+module _ (table : Parts) (allows : Past → Step → Type 0) where
+  abbrev pub number : Parts → ℕ
+  number = number_in table
+
   abbrev pub Some_steps : List Step → Type 0
   Some_steps steps = Unit {0}
 
   abbrev pub Steps : Past → Past → Type 0
-  Steps = Ran number Good Reached allows Some_steps Anything
+  Steps = Ran (metadata_rules table allows) Some_steps Anything
 
-  pub some : (M : List Step → Type 0) (K : Past → Type 0) (old new : Past) → Ran number Good Reached allows M K old new → Steps old new
-  some M K old new run = ran_turned number Good Reached allows M Some_steps K Anything old new run (λ l m. tt) (λ k. tt)
+  pub some : (M : List Step → Type 0) (K : Past → Type 0) (old new : Past) → Ran (metadata_rules table allows) M K old new → Steps old new
+  some M K old new run = ran_turned (metadata_rules table allows) M Some_steps K Anything old new run (λ l m. tt) (λ k. tt)
 
   pub both : (old mid new : Past) → Steps old mid → Steps mid new → Steps old new
-  both old mid new a b = ran_then number Good Reached allows Some_steps Some_steps Some_steps Anything Anything (λ l k m n. tt) old mid new a b
+  both old mid new a b = ran_then (metadata_rules table allows) Some_steps Some_steps Some_steps Anything Anything (λ l k m n. tt) old mid new a b
 
   abbrev pub Idle : Past → Past → Type 0
-  Idle = Ran number Good Reached allows (Exactly []) Anything
+  Idle = Ran (metadata_rules table allows) (Exactly []) Anything
 
-  still : (K : Past → Type 0) (old new : Past) → Ran number Good Reached allows (Exactly []) K old new → Idle old new
-  still K old new run = ran_turned number Good Reached allows (Exactly []) (Exactly []) K Anything old new run (λ l e. e) (λ k. tt)
+  still : (K : Past → Type 0) (old new : Past) → Ran (metadata_rules table allows) (Exactly []) K old new → Idle old new
+  still K old new run = ran_turned (metadata_rules table allows) (Exactly []) (Exactly []) K Anything old new run (λ l e. e) (λ k. tt)
 
-  pub opened_idle : (base : Parts) (text : List ℕ) (old now : Past) → IsOpened number Good Reached allows base text old now → Idle old now
+  pub opened_idle : (base : Parts) (text : List ℕ) (old now : Past) → IsOpened (metadata_rules table allows) base text old now → Idle old now
   opened_idle base text old now o = still (InState (OpenStage number base)) old now o.listed.run
 
-  read_err_idle : (e : ReadErr) (old now : Past) → ReadErrLeaves number Good Reached allows e old now → Idle old now
+  read_err_idle : (e : ReadErr) (old now : Past) → ReadErrLeaves (metadata_rules table allows) e old now → Idle old now
   read_err_idle (Missing place) old now r = still (InState (λ d. is_named d.files place ≡ false)) old now r.run
   read_err_idle (Damaged place at) old now r = absurd r
   read_err_idle (Unsupported place VersionNumber) old now r = still (InState (λ d. IsBeyond number place d.files)) old now r
@@ -69,34 +75,34 @@ module _ (number : Parts → ℕ) (Good : GoodBy) (Reached : ReachBy) (allows : 
   read_err_idle Memory old now r = r
 
   -- an opening takes no step of ours
-  pub open_err_idle : (table : Parts) (e : OpenErr) (old now : Past) → OpenErrLeaves number Good Reached allows table e old now → Idle old now
-  open_err_idle table (NoTable place) old now r = still (InState (λ d. version number d.files ≡ 0)) old now r.1
-  open_err_idle table (LocationDiffers place location) old now r = opened_idle r.1.0 r.1.1.text old now r.1.1.opened
-  open_err_idle table (Read (Missing place)) old now r = read_err_idle (Missing place) old now r
-  open_err_idle table (Read (Damaged place at)) old now r = opened_idle place r.text old now r.opened
-  open_err_idle table (Read (Unsupported place what)) old now (inl r) = read_err_idle (Unsupported place what) old now r
-  open_err_idle table (Read (Unsupported place what)) old now (inr r) = opened_idle place r.text old now r.opened
-  open_err_idle table (Read (StoreFault place)) old now r = read_err_idle (StoreFault place) old now r
-  open_err_idle table (Read Memory) old now r = read_err_idle Memory old now r
+  pub open_err_idle : (e : OpenErr) (old now : Past) → OpenErrLeaves table allows e old now → Idle old now
+  open_err_idle (NoTable place) old now r = still (InState (λ d. version number d.files ≡ 0)) old now r.1
+  open_err_idle (LocationDiffers place location) old now r = opened_idle r.1.0 r.1.1.text old now r.1.1.opened
+  open_err_idle (Read (Missing place)) old now r = read_err_idle (Missing place) old now r
+  open_err_idle (Read (Damaged place at)) old now r = opened_idle place r.text old now r.opened
+  open_err_idle (Read (Unsupported place what)) old now (inl r) = read_err_idle (Unsupported place what) old now r
+  open_err_idle (Read (Unsupported place what)) old now (inr r) = opened_idle place r.text old now r.opened
+  open_err_idle (Read (StoreFault place)) old now r = read_err_idle (StoreFault place) old now r
+  open_err_idle (Read Memory) old now r = read_err_idle Memory old now r
 
-  pub publish_steps : (base : Parts) (text : List ℕ) (target draft : Parts) (bytes : List ℕ) (r : Result (Unit {0}) PublishErr) (old new : Past) → PublishLeaves number Good Reached allows base text target draft bytes r old new → Steps old new
-  publish_steps base text target draft bytes (Ok u) old new run = some (Exactly (draft_plan draft bytes ++ (Rename draft target ∷ SyncNames ∷ []))) (IsPublished number text bytes (IsBased number Good Reached base text old)) old new run
-  publish_steps base text target draft bytes (Err publishes.NameTaken) old new run = some (Exactly []) (InState (λ d. is_named d.files draft ≡ true)) old new run
-  publish_steps base text target draft bytes (Err publishes.Contended) old new run = some (Exactly (draft_plan draft bytes ++ (Remove draft ∷ SyncNames ∷ []))) (InState (IsLost target)) old new run
-  publish_steps base text target draft bytes (Err publishes.Unknown) old new run = some (Reaching draft bytes target) Anything old new run
-  publish_steps base text target draft bytes (Err (publishes.Fault call)) old new run = some (Partly draft bytes) Anything old new run
-  publish_steps base text target draft bytes (Err publishes.NoMemory) old new run = some (λ l. Partly draft bytes l ⊎ Reaching draft bytes target l) Anything old new run
+  pub publish_steps : (route : Route) (bytes : List ℕ) (r : Result (Unit {0}) PublishErr) (old new : Past) → PublishLeaves (metadata_rules table allows) route bytes r old new → Steps old new
+  publish_steps route bytes (Ok u) old new run = some (Exactly (draft_plan route.draft bytes ++ move_plan route)) (Publishes (metadata_reading table) route bytes old) old new run
+  publish_steps route bytes (Err publishes.NameTaken) old new run = some (Exactly []) (IsNameTaken route) old new run
+  publish_steps route bytes (Err publishes.Contended) old new run = some (Exactly (draft_plan route.draft bytes ++ drop_plan route)) (InState (IsLost route.target)) old new run
+  publish_steps route bytes (Err publishes.Unknown) old new run = some (Reaching route bytes) Anything old new run
+  publish_steps route bytes (Err (publishes.Fault call)) old new run = some (Partly route bytes) Anything old new run
+  publish_steps route bytes (Err publishes.NoMemory) old new run = some (PartlyOrReaching route bytes) Anything old new run
 
-  module _ (successor : Data → Data → Type 0) (same : Data → Type 0) (refuses : Data → AttemptErr → Type 0) (seen : Data → Type 0) (Drawn : ℕ → Type 0) (table : Parts) (now : ℕ) where
+  module _ (meanings : Meanings) (Drawn : ℕ → Type 0) (now : ℕ) where
     module _ (at : At) (old new : Past) where
       abbrev pub Attempts : Result Committed CommitErr → Type 0
-      Attempts r = AttemptLeaves number Good Reached allows successor same refuses seen Drawn table now at r old new
+      Attempts r = AttemptLeaves table allows meanings Drawn now at r old new
 
-      idle : Ran number Good Reached allows (Exactly []) Anything old new → Steps old new
+      idle : Ran (metadata_rules table allows) (Exactly []) Anything old new → Steps old new
       idle run = some (Exactly []) Anything old new run
 
-      published : (r : Result (Unit {0}) PublishErr) → PublishedBy number Good Reached allows successor same refuses seen Drawn table now at r old new → Steps old new
-      published r p = publish_steps at.place at.text p.drafted.target p.drafted.draft p.drafted.bytes r old new p.left
+      published : (r : Result (Unit {0}) PublishErr) → PublishedBy table allows meanings Drawn now at r old new → Steps old new
+      published r p = publish_steps p.drafted.route p.drafted.bytes r old new p.left
 
       pub attempt_steps : (r : Result Committed CommitErr) → Attempts r → Steps old new
       attempt_steps (Ok (Same v)) a = idle a.4
@@ -105,25 +111,25 @@ module _ (number : Parts → ℕ) (Good : GoodBy) (Reached : ReachBy) (allows : 
       attempt_steps (Err (Attempt (attempts.Refused refusal))) a = idle a.idle
       attempt_steps (Err (Attempt (attempts.Conflict place other))) a = idle a.idle
       attempt_steps (Err (Attempt (attempts.NameTaken place))) (inl a) = idle a.idle
-      attempt_steps (Err (Attempt (attempts.NameTaken place))) (inr a) = publish_steps at.place at.text a.drafted.target a.drafted.draft a.drafted.bytes (Err publishes.NameTaken) old new a.left
+      attempt_steps (Err (Attempt (attempts.NameTaken place))) (inr a) = publish_steps a.drafted.route a.drafted.bytes (Err publishes.NameTaken) old new a.left
       attempt_steps (Err (Attempt (attempts.Read (Missing place)))) a = idle a.idle
       attempt_steps (Err (Attempt (attempts.Read (Damaged place where_)))) (inl a) = idle a.idle
-      attempt_steps (Err (Attempt (attempts.Read (Damaged place where_)))) (inr a) = idle a.3
+      attempt_steps (Err (Attempt (attempts.Read (Damaged place where_)))) (inr a) = idle a.1.2
       attempt_steps (Err (Attempt (attempts.Read (Unsupported place what)))) (inl a) = idle a.idle
-      attempt_steps (Err (Attempt (attempts.Read (Unsupported place what)))) (inr a) = idle a.3
+      attempt_steps (Err (Attempt (attempts.Read (Unsupported place what)))) (inr a) = idle a.1.2
       attempt_steps (Err (Attempt (attempts.Read (StoreFault place)))) (inl a) = idle a.idle
-      attempt_steps (Err (Attempt (attempts.Read (StoreFault place)))) (inr a) = publish_steps at.place at.text a.drafted.target a.drafted.draft a.drafted.bytes (Err (publishes.Fault a.call)) old new a.left
+      attempt_steps (Err (Attempt (attempts.Read (StoreFault place)))) (inr a) = publish_steps a.drafted.route a.drafted.bytes (Err (publishes.Fault a.call)) old new a.left
       attempt_steps (Err (Attempt (attempts.Read Memory))) (inl a) = idle a
       attempt_steps (Err (Attempt (attempts.Read Memory))) (inr a) = published (Err publishes.NoMemory) a
       attempt_steps (Err (Contended v)) a = published (Err publishes.Contended) a.2
       attempt_steps (Err (CommitUnknown v)) a = published (Err publishes.Unknown) a.2
 
-    attempted_steps : (r : Result Committed CommitErr) (old new : Past) → Attempted number Good Reached allows successor same refuses seen Drawn table now r old new → Steps old new
+    attempted_steps : (r : Result Committed CommitErr) (old new : Past) → Attempted table allows meanings Drawn now r old new → Steps old new
     attempted_steps r old new a = both old a.mid new (some (Exactly []) Anything old a.mid (opened_idle a.at.place a.at.text old a.mid a.opened.opened)) (attempt_steps a.at a.mid new r a.then)
 
-    pub commit_steps : (r : Result Committed CommitErr) (old new : Past) → CommitLeaves number Good Reached allows successor same refuses seen Drawn table now r old new → Steps old new
+    pub commit_steps : (r : Result Committed CommitErr) (old new : Past) → CommitLeaves table allows meanings Drawn now r old new → Steps old new
     commit_steps (Ok c) old new a = attempted_steps (Ok c) old new a
-    commit_steps (Err (Open e)) old new a = some (Exactly []) Anything old new (open_err_idle table e old new a)
+    commit_steps (Err (Open e)) old new a = some (Exactly []) Anything old new (open_err_idle e old new a)
     commit_steps (Err (Attempt e)) old new a = attempted_steps (Err (Attempt e)) old new a
     commit_steps (Err (Contended v)) old new a = attempted_steps (Err (Contended v)) old new a
     commit_steps (Err (CommitUnknown v)) old new a = attempted_steps (Err (CommitUnknown v)) old new a

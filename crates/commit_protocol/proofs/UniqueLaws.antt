@@ -19,13 +19,14 @@ use Rattle.commit_history.proofs.Numbering.{numbering}
 use Rattle.metadata_form.specs.declared.fault.Fault.{Fault}
 use Rattle.table_metadata.specs.Spelling.{Spells}
 use Rattle.table_metadata.proofs.SpellingLaws.{one_fault, no_fault_of}
-use Rattle.table_metadata.specs.View.{location_of}
+use Rattle.metadata_view.specs.View.{location_of}
 use Rattle.table_metadata.specs.Edits.{HasVersionLimit, next_version}
 use Rattle.commit_versions.specs.Names.{version_text_of}
 use Rattle.commit_versions.specs.Opening.{FileIs, IsBeyond, file_limit}
 use Rattle.commit_versions.specs.declared.types.OpenErr.{OpenErr}
 use Rattle.commit_versions.specs.declared.types.OpenErr.TheVariants.{NoTable, LocationDiffers, Read}
 use Rattle.commit_versions.proofs.FirstPlace.{one_first}
+use Rattle.commit_protocol.specs.Meanings.{Meanings}
 use Rattle.commit_protocol.specs.Metadata.{IsMetadata, IsElsewhere, IsDamaged, IsUnsupported, unsupported}
 use Rattle.commit_protocol.specs.Attempts.{IsNextOf, limit_path}
 use Rattle.commit_protocol.specs.Written.{draft_at}
@@ -206,7 +207,7 @@ one_given before values a b x y =
     cc (append_cancel_left x.0 (a ∷ []) (b ∷ []) ends)
 
 -- A commit.
-module _ (table : Parts) (now : ℕ) (successor : Data → Data → Type 0) (same : Data → Type 0) (refuses : Data → AttemptErr → Type 0) (Drawn : ℕ → Type 0) (decided : IsDecided successor same refuses) (one_drawn : IsOneDrawn Drawn) (files : List Held) where
+module _ (table : Parts) (now : ℕ) (meanings : Meanings) (Drawn : ℕ → Type 0) (decided : IsDecided meanings) (one_drawn : IsOneDrawn Drawn) (files : List Held) where
   abbrev pub Commit : Type 0
   Commit = Result Committed CommitErr
 
@@ -219,11 +220,11 @@ module _ (table : Parts) (now : ℕ) (successor : Data → Data → Type 0) (sam
     pub id : ℕ
     pub drawn : Drawn id
     pub next : Data
-    pub is : IsNextOf successor last now tree next
+    pub is : IsNextOf meanings.successor last now tree next
     pub which : DraftCase last (draft_at table id) (length (compact_text next)) r
 
   abbrev pub MadeCase : ℕ → Data → Commit → Type 0
-  MadeCase last tree r = (same tree × (r ≡ Ok (Same last))) ⊎ (((refusal : Refusal) × refuses tree (attempts.Refused refusal) × (r ≡ Err (Attempt (attempts.Refused refusal)))) ⊎ InDraft last tree r)
+  MadeCase last tree r = (meanings.same tree × (r ≡ Ok (Same last))) ⊎ (((refusal : Refusal) × meanings.refuses tree (attempts.Refused refusal) × (r ≡ Err (Attempt (attempts.Refused refusal)))) ⊎ InDraft last tree r)
 
   abbrev pub BaseCase : Parts → ℕ → Data → Commit → Type 0
   BaseCase place last tree r = ((HasVersionLimit tree → ⊥) × (r ≡ Err (Attempt (attempts.Read (Damaged place (Path limit_path)))))) ⊎ (HasVersionLimit tree × MadeCase last tree r)
@@ -241,10 +242,10 @@ module _ (table : Parts) (now : ℕ) (successor : Data → Data → Type 0) (sam
   CommitCase r = ((e : OpenErr) × OpenCase table files (Err e) × (r ≡ Err (Open e))) ⊎ InBase r
 
   abbrev pub Verdict : Commit → Type 0
-  Verdict = CommitVerdict successor same refuses Drawn table now files
+  Verdict = CommitVerdict meanings Drawn table now files
 
   abbrev pub Draws : (ℕ → Type 0) → ℕ → Data → Parts → Type 0
-  Draws = DrawsUp successor same refuses Drawn table now
+  Draws = DrawsUp meanings.successor Drawn table now
 
   module _ (r : Commit) (P : ℕ → Data → Type 0) (b : OnBase table files P) where
     made_in : MadeCase b.last b.tree r → CommitCase r
@@ -253,11 +254,11 @@ module _ (table : Parts) (now : ℕ) (successor : Data → Data → Type 0) (sam
     draft_in : (Long : ℕ → Type 0) (draft : Parts) (d : Draws Long b.last b.tree draft) → DraftCase b.last draft (length (compact_text d.next)) r → CommitCase r
     draft_in Long draft d which = made_in (inr (inr (record { id = d.id; drawn = d.drawn; next = d.next; is = d.is; which = subst (λ (p : Parts). DraftCase b.last p (length (compact_text d.next)) r) d.place which })))
 
-  taken_in : (place : Parts) (P : ℕ → Data → Type 0) (b : OnBase table files P) → refuses b.tree (attempts.NameTaken place) ⊎ (Draws IsShort b.last b.tree place × (is_named files place ≡ true)) → CommitCase (Err (Attempt (attempts.NameTaken place)))
+  taken_in : (place : Parts) (P : ℕ → Data → Type 0) (b : OnBase table files P) → meanings.refuses b.tree (attempts.NameTaken place) ⊎ (Draws IsShort b.last b.tree place × (is_named files place ≡ true)) → CommitCase (Err (Attempt (attempts.NameTaken place)))
   taken_in place P b (inl so) = absurd (decided.plain b.tree (attempts.NameTaken place) so)
   taken_in place P b (inr (d, named)) = draft_in (Err (Attempt (attempts.NameTaken place))) P b IsShort place d (inr (d.length_is, inl (named, refl)))
 
-  long_in : (place : Parts) (what : What) (P : ℕ → Data → Type 0) (b : OnBase table files P) → refuses b.tree (attempts.Read (Unsupported place what)) ⊎ ((what ≡ FileBytes) × Draws IsLongText b.last b.tree place) → CommitCase (Err (Attempt (attempts.Read (Unsupported place what))))
+  long_in : (place : Parts) (what : What) (P : ℕ → Data → Type 0) (b : OnBase table files P) → meanings.refuses b.tree (attempts.Read (Unsupported place what)) ⊎ ((what ≡ FileBytes) × Draws IsLongText b.last b.tree place) → CommitCase (Err (Attempt (attempts.Read (Unsupported place what))))
   long_in place what P b (inl so) = absurd (decided.plain b.tree (attempts.Read (Unsupported place what)) so)
   long_in place what P b (inr (bytes, d)) = draft_in (Err (Attempt (attempts.Read (Unsupported place what)))) P b IsLongText place d (inl (d.length_is, ap (λ (w : What). Err (Attempt (attempts.Read (Unsupported place w)))) bytes))
 

@@ -1,5 +1,5 @@
 -- Where nobody else acts, what a call tells by its answer is the answer's exact cause in the files at the entry.
-use Rattle.std.proofs.Common.{◌≡◌, inl, inr, ℕ, ◌<◌, ◌≤◌, Bool, true, false, List, [], ◌∷◌, ◌++◌, length, Result, Ok, Err, refl, sym, ◌∙◌, subst, arith}
+use Rattle.std.proofs.Common.{◌≡◌, inl, inr, ℕ, ◌+◌, ◌<◌, ◌≤◌, Bool, true, false, List, [], ◌∷◌, ◌++◌, length, Result, Ok, Err, refl, sym, ◌∙◌, subst, arith}
 use Rattle.serde_json.specs.Data.{Data}
 use Rattle.serde_json.specs.View.{view}
 use Rattle.ice_store.specs.Places.{Parts}
@@ -12,15 +12,17 @@ use Rattle.ice_store.specs.declared.history.Step.TheVariants.{Append, Seal, Rena
 use Rattle.ice_store.specs.declared.faults.What.{What}
 use Rattle.ice_store.specs.declared.faults.What.TheVariants.{Codec, FormatVersion, Transform, SchemaSize, BlockBytes, ItemCount, FileBytes, GroupBytes, NoManifestList, VersionNumber, Sequence}
 use Rattle.ice_store.specs.declared.faults.ReadErr.TheVariants.{Missing, Damaged, Unsupported, StoreFault, Memory}
-use Rattle.commit_history.specs.Tables.{GoodBy, ReachBy, version}
+use Rattle.commit_history.specs.Tables.{version}
 use Rattle.commit_history.specs.Versions.{number_in}
 use Rattle.commit_history.specs.Runs.{Ran}
 use Rattle.table_metadata.specs.Edits.{HasVersionLimit}
-use Rattle.commit_publish.specs.Stages.{Exactly, Anything, IsLost, InState, draft_plan}
+use Rattle.commit_publish.specs.Stages.{Exactly, Anything, IsLost, IsNameTaken, InState, draft_plan, move_plan, drop_plan}
+use Rattle.commit_publish.specs.declared.steps.Route.{Route}
 use Rattle.commit_versions.specs.Opening.{OpenStage, FileIs, IsLong, IsBeyond, IsOpened, Listed, ReadErrLeaves, file_limit}
 use Rattle.commit_versions.specs.declared.types.OpenErr.{OpenErr}
 use Rattle.commit_versions.specs.declared.types.OpenErr.TheVariants.{NoTable, LocationDiffers, Read}
-use Rattle.commit_protocol.specs.Metadata.{HasOpened, IsAt, TableLeaves, OpenErrLeaves}
+use Rattle.commit_protocol.specs.Meanings.{Meanings}
+use Rattle.commit_protocol.specs.Metadata.{metadata_rules, HasOpened, IsAt, TableLeaves, OpenErrLeaves}
 use Rattle.commit_protocol.specs.Attempts.{Drafted, RefusedBy, Attempted, AttemptLeaves, CommitLeaves}
 use Rattle.commit_protocol.specs.Verdicts.{IsNobody, IsLastFile, HasLast, IsOverlong, IsTable, LimitVerdict, OpenVerdict, OnBase, IsUnlimited, IsShort, DrawsUp, CommitVerdict, IsIdle}
 use Rattle.commit_protocol.specs.declared.opening.At.{At}
@@ -32,22 +34,22 @@ use Rattle.commit_protocol.specs.declared.errors.Committed.{Committed}
 use Rattle.commit_protocol.specs.declared.errors.Committed.TheVariants.{Same, Published}
 use Rattle.commit_protocol.proofs.QuietLaws.{unmoved, stands, first_created, still_free, no_place, PlainSteps}
 
-module _ (table : Parts) (Good : GoodBy) (Reached : ReachBy) (allows : Past → Step → Type 0) (nobody : IsNobody allows) where
+module _ (table : Parts) (allows : Past → Step → Type 0) (nobody : IsNobody allows) where
   abbrev pub number : Parts → ℕ
   number = number_in table
 
   abbrev pub Idle : (Past → Type 0) → Past → Past → Type 0
-  Idle = Ran number Good Reached allows (Exactly [])
+  Idle = Ran (metadata_rules table allows) (Exactly [])
 
   same : (K : Past → Type 0) (old now : Past) → Idle K old now → now ≡ old
-  same K old now run = unmoved number allows nobody Good Reached K old now run
+  same K old now run = unmoved (metadata_rules table allows) nobody K old now run
 
   held : (K : Past → Type 0) (old now : Past) → Idle K old now → K old
-  held K old now run = stands number allows nobody Good Reached K old now run
+  held K old now run = stands (metadata_rules table allows) nobody K old now run
 
   -- An opening.
 
-  module _ (base : Parts) (K : Past → Type 0) (old now : Past) (l : Listed number Good Reached allows base K old now) where
+  module _ (base : Parts) (K : Past → Type 0) (old now : Past) (l : Listed (metadata_rules table allows) base K old now) where
     same_listing : l.listed ≡ old
     same_listing = same Anything old l.listed l.listing
 
@@ -65,7 +67,7 @@ module _ (table : Parts) (Good : GoodBy) (Reached : ReachBy) (allows : Past → 
         let e : is_named (replay old).files base ≡ false = subst (λ (p : Past). is_named (replay p).files base ≡ false) (same K old now l.run) (gone l.run.stage) in
         absurd (cc (e, named_is))
 
-  module _ (base : Parts) (text : List ℕ) (old now : Past) (o : IsOpened number Good Reached allows base text old now) where
+  module _ (base : Parts) (text : List ℕ) (old now : Past) (o : IsOpened (metadata_rules table allows) base text old now) where
     abbrev pub KO : Past → Type 0
     KO = InState (OpenStage number base)
 
@@ -75,15 +77,15 @@ module _ (table : Parts) (Good : GoodBy) (Reached : ReachBy) (allows : Past → 
     opened_file : IsLastFile table (replay old).files base (number base) text
     opened_file = last_file base KO old now o.listed text (subst (λ (p : Past). FileIs base text (replay p).files) still_open o.file)
 
-  has_last : (base : Parts) (P : List ℕ → Type 0) (old now : Past) → HasOpened number Good Reached allows base P old now → HasLast table (replay old).files (λ p bytes. (base ≡ p) × P bytes)
+  has_last : (base : Parts) (P : List ℕ → Type 0) (old now : Past) → HasOpened table allows base P old now → HasLast table (replay old).files (λ p bytes. (base ≡ p) × P bytes)
   has_last base P old now h = record { place = base; last = number base; bytes = h.text; file = opened_file base h.text old now h.opened; short = h.opened.short; holds = (refl, h.holds) }
 
-  table_at : (at : At) (old now : Past) → IsAt number Good Reached allows table at old now → IsTable table (replay old).files at.place at.version at.text (view at.meta)
+  table_at : (at : At) (old now : Past) → IsAt table allows at old now → IsTable table (replay old).files at.place at.version at.text (view at.meta)
   table_at at old now a =
       let file = opened_file at.place at.text old now a.opened in
       record { file = record { is_last = file.is_last ∙ a.numbers.is; numbers = a.numbers; file = file.file }; short = a.opened.short; metadata = a.metadata }
 
-  overlong : (place : Parts) (old now : Past) → Listed number Good Reached allows place (InState (λ d. IsLong place d.files)) old now → IsOverlong table (replay old).files place
+  overlong : (place : Parts) (old now : Past) → Listed (metadata_rules table allows) place (InState (λ d. IsLong place d.files)) old now → IsOverlong table (replay old).files place
   overlong place old now l =
       let it = held (InState (λ d. IsLong place d.files)) old now l.run in
       record { last = number place; bytes = it.file.bytes; file = last_file place (InState (λ d. IsLong place d.files)) old now l it.file.bytes (record { file = it.file; stands = it.stands; bytes_is = refl }); long = it.long }
@@ -92,7 +94,7 @@ module _ (table : Parts) (Good : GoodBy) (Reached : ReachBy) (allows : Past → 
   abbrev pub Answered : Result At OpenErr → Past → Past → Type 0
   Answered r old now = (now ≡ old) × OpenVerdict table (replay old).files r
 
-  limit_answered : (place : Parts) (what : What) (old now : Past) → ReadErrLeaves number Good Reached allows (Unsupported place what) old now → (now ≡ old) × LimitVerdict table (replay old).files place what
+  limit_answered : (place : Parts) (what : What) (old now : Past) → ReadErrLeaves (metadata_rules table allows) (Unsupported place what) old now → (now ≡ old) × LimitVerdict table (replay old).files place what
   limit_answered place VersionNumber old now r = let K = InState (λ d. IsBeyond number place d.files) in (same K old now r, held K old now r)
   limit_answered place FileBytes old now r = (same (InState (λ d. IsLong place d.files)) old now r.run, overlong place old now r)
   limit_answered place Codec old now r = absurd r
@@ -105,7 +107,7 @@ module _ (table : Parts) (Good : GoodBy) (Reached : ReachBy) (allows : Past → 
   limit_answered place NoManifestList old now r = absurd r
   limit_answered place Sequence old now r = absurd r
 
-  err_answered : (e : OpenErr) (old now : Past) → OpenErrLeaves number Good Reached allows table e old now → Answered (Err e) old now
+  err_answered : (e : OpenErr) (old now : Past) → OpenErrLeaves table allows e old now → Answered (Err e) old now
   err_answered (NoTable place) old now r = let K = InState (λ d. version number d.files ≡ 0) in (same K old now r.1, (r.0, held K old now r.1))
   err_answered (LocationDiffers place location) old now r =
       let h = r.1.1 in
@@ -117,20 +119,20 @@ module _ (table : Parts) (Good : GoodBy) (Reached : ReachBy) (allows : Past → 
   err_answered (Read (StoreFault place)) old now r = (same Anything old now r, tt)
   err_answered (Read Memory) old now r = (same Anything old now r, tt)
 
-  pub opening_answered : (r : Result At OpenErr) (old now : Past) → TableLeaves number Good Reached allows table r old now → Answered r old now
+  pub opening_answered : (r : Result At OpenErr) (old now : Past) → TableLeaves table allows r old now → Answered r old now
   opening_answered (Ok at) old now a = (still_open at.place at.text old now a.opened, table_at at old now a)
   opening_answered (Err e) old now a = err_answered e old now a
 
   -- A commit.
 
-  module _ (successor : Data → Data → Type 0) (unchanged : Data → Type 0) (refuses : Data → AttemptErr → Type 0) (seen : Data → Type 0) (Drawn : ℕ → Type 0) (now_ms : ℕ) where
+  module _ (meanings : Meanings) (Drawn : ℕ → Type 0) (now_ms : ℕ) where
     abbrev pub Verdict : List Held → Result Committed CommitErr → Type 0
-    Verdict = CommitVerdict successor unchanged refuses Drawn table now_ms
+    Verdict = CommitVerdict meanings Drawn table now_ms
 
     abbrev pub Draws : (ℕ → Type 0) → ℕ → Data → Parts → Type 0
-    Draws = DrawsUp successor unchanged refuses Drawn table now_ms
+    Draws = DrawsUp meanings.successor Drawn table now_ms
 
-    module _ (at : At) (old mid new : Past) (opened : IsAt number Good Reached allows table at old mid) where
+    module _ (at : At) (old mid new : Past) (opened : IsAt table allows at old mid) where
       same_mid : mid ≡ old
       same_mid = still_open at.place at.text old mid opened.opened
 
@@ -140,30 +142,31 @@ module _ (table : Parts) (Good : GoodBy) (Reached : ReachBy) (allows : Past → 
       still : Idle Anything mid new → new ≡ old
       still run = same Anything mid new run ∙ same_mid
 
-      draws : (d : Drafted Drawn successor table number now_ms at) → Draws IsShort at.version (view at.meta) d.draft
+      draws : (d : Drafted Drawn meanings.successor table now_ms at) → Draws IsShort at.version (view at.meta) d.route.draft
       draws d = record { id = d.id; drawn = d.drawn; place = d.draft_is; next = d.writes.next; is = d.writes.is; length_is = subst (λ (b : List ℕ). length b ≤ file_limit) d.writes.written d.short }
 
-      abbrev pub Publish : Parts → Parts → List ℕ → List Step
-      Publish draft target bytes = draft_plan draft bytes ++ (Rename draft target ∷ SyncNames ∷ [])
+      abbrev pub Publish : Route → List ℕ → List Step
+      Publish route bytes = draft_plan route.draft bytes ++ move_plan route
 
       -- the first step of a publish met a free name
-      free : (draft : Parts) (bytes : List ℕ) (rest : List Step) (K : Past → Type 0) → Ran number Good Reached allows (Exactly (draft_plan draft bytes ++ rest)) K mid new → is_named (replay old).files draft ≡ false
+      free : (draft : Parts) (bytes : List ℕ) (rest : List Step) (K : Past → Type 0) → Ran (metadata_rules table allows) (Exactly (draft_plan draft bytes ++ rest)) K mid new → is_named (replay old).files draft ≡ false
       free draft bytes rest K run =
-          let it = first_created number allows nobody mid run.events draft (Append draft bytes ∷ Seal draft ∷ SyncNames ∷ rest) run.proper run.made in
+          let it = first_created (metadata_rules table allows) nobody mid run.events draft (Append draft bytes ∷ Seal draft ∷ SyncNames ∷ rest) run.proper run.made in
           subst (λ (p : Past). is_named (replay p).files draft ≡ false) same_mid it
 
       -- the target of a publish can't be taken
-      lost : (d : Drafted Drawn successor table number now_ms at) → Ran number Good Reached allows (Exactly (draft_plan d.draft d.bytes ++ (Remove d.draft ∷ SyncNames ∷ []))) (InState (IsLost d.target)) mid new → ⊥
+      lost : (d : Drafted Drawn meanings.successor table now_ms at) → Ran (metadata_rules table allows) (Exactly (draft_plan d.route.draft d.bytes ++ drop_plan d.route)) (InState (IsLost d.route.target)) mid new → ⊥
       lost d run =
           let file = opened_file at.place at.text old mid opened.opened in
-          let above : version number (replay mid).files < number d.target = subst (λ (p : Past). version number (replay p).files < number d.target) (sym same_mid) (omega (arith, file.is_last, d.aim.next)) in
-          let pos : 0 < number d.target = omega (arith, d.aim.next) in
-          let free_at_first : is_named (replay mid).files d.target ≡ false = not_named (is_named (replay mid).files d.target) refl (no_place number (replay mid).files d.target above) in
-          let plain = still_free number allows nobody d.target pos mid run.events run.proper (subst (λ (l : List Step). PlainSteps l) (sym run.made) (tt, (tt, (tt, (tt, (tt, (tt, tt))))))) free_at_first in
-          let there : is_named (replay new).files d.target ≡ false = subst (λ (p : Past). is_named (replay p).files d.target ≡ false) (sym run.is) plain in
+          let next : number d.route.target ≡ number at.place + 1 = subst (λ (p : Parts). number d.route.target ≡ number p + 1) d.base_is d.aim.next in
+          let above : version number (replay mid).files < number d.route.target = subst (λ (p : Past). version number (replay p).files < number d.route.target) (sym same_mid) (omega (arith, file.is_last, next)) in
+          let pos : 0 < number d.route.target = omega (arith, next) in
+          let free_at_first : is_named (replay mid).files d.route.target ≡ false = not_named (is_named (replay mid).files d.route.target) refl (no_place number (replay mid).files d.route.target above) in
+          let plain = still_free (metadata_rules table allows) nobody d.route.target pos mid run.events run.proper (subst (λ (l : List Step). PlainSteps l) (sym run.made) (tt, (tt, (tt, (tt, (tt, (tt, tt))))))) free_at_first in
+          let there : is_named (replay new).files d.route.target ≡ false = subst (λ (p : Past). is_named (replay p).files d.route.target ≡ false) (sym run.is) plain in
           absurd (cc (there, run.stage.taken))
         where
-          not_named : (b : Bool) → is_named (replay mid).files d.target ≡ b → (is_named (replay mid).files d.target ≡ true → ⊥) → is_named (replay mid).files d.target ≡ false
+          not_named : (b : Bool) → is_named (replay mid).files d.route.target ≡ b → (is_named (replay mid).files d.route.target ≡ true → ⊥) → is_named (replay mid).files d.route.target ≡ false
           not_named true e never = absurd (never e)
           not_named false e never = e
 
@@ -171,47 +174,47 @@ module _ (table : Parts) (Good : GoodBy) (Reached : ReachBy) (allows : Past → 
       Ends r = IsIdle r old new × Verdict (replay old).files r
 
       abbrev pub Leaves : Result Committed CommitErr → Type 0
-      Leaves r = AttemptLeaves number Good Reached allows successor unchanged refuses seen Drawn table now_ms at r mid new
+      Leaves r = AttemptLeaves table allows meanings Drawn now_ms at r mid new
 
       abbrev pub Refusal : AttemptErr → Type 0
-      Refusal e = RefusedBy number Good Reached allows successor unchanged refuses seen Drawn table now_ms at e mid new
+      Refusal e = RefusedBy table allows meanings Drawn now_ms at e mid new
 
-      refused : (e : AttemptErr) → Refusal e → (new ≡ old) × OnBase table (replay old).files (λ last tree. refuses tree e)
-      refused e r = (still r.idle, on_base (λ last tree. refuses tree e) r.limit r.refuses_it)
+      refused : (e : AttemptErr) → Refusal e → (new ≡ old) × OnBase table (replay old).files (λ last tree. meanings.refuses tree e)
+      refused e r = (still r.idle, on_base (λ last tree. meanings.refuses tree e) r.limit r.refuses_it)
 
       pub attempt_ends : (r : Result Committed CommitErr) → Leaves r → Ends r
-      attempt_ends (Ok (Same v)) a = (still a.4, on_base (λ last tree. (v ≡ last) × unchanged tree) a.1 (a.0, a.2))
+      attempt_ends (Ok (Same v)) a = (still a.4, on_base (λ last tree. (v ≡ last) × meanings.same tree) a.1 (a.0, a.2))
       attempt_ends (Ok (Published v)) a =
           let d = a.3.drafted in
-          (tt, on_base _ a.1 (a.0, record { draft = d.draft; drawn_up = draws d; free = free d.draft d.bytes (Rename d.draft d.target ∷ SyncNames ∷ []) _ a.3.left }))
+          (tt, on_base _ a.1 (a.0, record { draft = d.route.draft; drawn_up = draws d; free = free d.route.draft d.bytes (move_plan d.route) _ a.3.left }))
       attempt_ends (Err (Open e)) a = absurd a
       attempt_ends (Err (Attempt (attempts.Refused refusal))) a = refused (attempts.Refused refusal) a
       attempt_ends (Err (Attempt (attempts.Conflict place other))) a = refused (attempts.Conflict place other) a
       attempt_ends (Err (Attempt (attempts.NameTaken place))) (inl a) = let r = refused (attempts.NameTaken place) a in (r.0, on_base _ a.limit (inl a.refuses_it))
       attempt_ends (Err (Attempt (attempts.NameTaken place))) (inr a) =
           let d = a.drafted in
-          let K = InState (λ e. is_named e.files d.draft ≡ true) in
-          let named : is_named (replay old).files d.draft ≡ true = subst (λ (p : Past). is_named (replay p).files d.draft ≡ true) same_mid (held K mid new a.left) in
+          let K = IsNameTaken d.route in
+          let named : is_named (replay old).files d.route.draft ≡ true = subst (λ (p : Past). is_named (replay p).files d.route.draft ≡ true) same_mid (held K mid new a.left) in
           let draws_place = subst (λ (p : Parts). Draws IsShort at.version (view at.meta) p) (sym a.place_is) (draws d) in
           (same K mid new a.left ∙ same_mid, on_base _ a.limit (inr (draws_place, subst (λ (p : Parts). is_named (replay old).files p ≡ true) (sym a.place_is) named)))
       attempt_ends (Err (Attempt (attempts.Read (Missing place)))) a = refused (attempts.Read (Missing place)) a
       attempt_ends (Err (Attempt (attempts.Read (Damaged place where_)))) (inl a) = let r = refused (attempts.Read (Damaged place where_)) a in (r.0, inl r.1)
       attempt_ends (Err (Attempt (attempts.Read (Damaged place where_)))) (inr a) =
-          let it : IsUnlimited table (replay old).files at.place = record { last = at.version; bytes = at.text; tree = view at.meta; is = table_at at old mid opened; unlimited = a.2 } in
-          (still a.3, inr (a.1, subst (λ (p : Parts). IsUnlimited table (replay old).files p) (sym a.0) it))
+          let it : IsUnlimited table (replay old).files at.place = record { last = at.version; bytes = at.text; tree = view at.meta; is = table_at at old mid opened; unlimited = a.1.1 } in
+          (still a.1.2, inr (a.0, subst (λ (p : Parts). IsUnlimited table (replay old).files p) (sym a.1.0) it))
       attempt_ends (Err (Attempt (attempts.Read (Unsupported place what)))) (inl a) = (still a.idle, on_base _ a.limit (inl a.refuses_it))
       attempt_ends (Err (Attempt (attempts.Read (Unsupported place what)))) (inr a) =
-          let t = a.2 in
-          (still a.3, on_base _ a.1 (inr (a.0, record { id = t.id; drawn = t.drawn; place = t.place_is; next = t.next; is = t.is; length_is = t.long })))
+          let t = a.1.1 in
+          (still a.1.2, on_base _ a.1.0 (inr (a.0, record { id = t.id; drawn = t.drawn; place = t.place_is; next = t.next; is = t.is; length_is = t.long })))
       attempt_ends (Err (Attempt (attempts.Read (StoreFault place)))) a = (tt, tt)
       attempt_ends (Err (Attempt (attempts.Read Memory))) a = (tt, tt)
       attempt_ends (Err (Contended v)) a = absurd (lost a.2.drafted a.2.left)
       attempt_ends (Err (CommitUnknown v)) a = (tt, tt)
 
     abbrev pub Commit : Result Committed CommitErr → Past → Past → Type 0
-    Commit = CommitLeaves number Good Reached allows successor unchanged refuses seen Drawn table now_ms
+    Commit = CommitLeaves table allows meanings Drawn now_ms
 
-    attempted_ends : (r : Result Committed CommitErr) (old new : Past) → Attempted number Good Reached allows successor unchanged refuses seen Drawn table now_ms r old new → IsIdle r old new × Verdict (replay old).files r
+    attempted_ends : (r : Result Committed CommitErr) (old new : Past) → Attempted table allows meanings Drawn now_ms r old new → IsIdle r old new × Verdict (replay old).files r
     attempted_ends r old new a = attempt_ends a.at old a.mid new a.opened r a.then
 
     pub commit_ends : (r : Result Committed CommitErr) (old new : Past) → Commit r old new → IsIdle r old new × Verdict (replay old).files r

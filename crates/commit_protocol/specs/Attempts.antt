@@ -9,23 +9,24 @@ use Rattle.ice_store.specs.declared.faults.What.TheVariants.{FileBytes}
 use Rattle.ice_store.specs.declared.faults.Where.TheVariants.{Path}
 use Rattle.ice_store.specs.declared.faults.ReadErr.{ReadErr}
 use Rattle.ice_store.specs.declared.faults.ReadErr.TheVariants.{Missing, Damaged, Unsupported, StoreFault, Memory}
-use Rattle.commit_history.specs.Tables.{GoodBy, ReachBy}
 use Rattle.commit_history.specs.Runs.{Ran}
 use Rattle.table_metadata.specs.Spelling.{Spells}
-use Rattle.table_metadata.specs.View.{location_of}
+use Rattle.metadata_view.specs.View.{location_of}
 use Rattle.table_metadata.specs.Edits.{next_version, HasVersionLimit}
 use Rattle.commit_publish.specs.Stages.{Aim, Exactly, Anything}
 use Rattle.commit_versions.specs.Opening.{file_limit}
 use Rattle.commit_versions.specs.Names.{version_text_of, version_name, draft_name}
-use Rattle.commit_history.specs.Versions.{folder}
+use Rattle.commit_history.specs.Versions.{folder, number_in}
 use Rattle.serde_json.specs.Written.{compact_text}
 use Rattle.commit_publish.specs.Leaves.{PublishLeaves}
+use Rattle.commit_publish.specs.declared.steps.Route.{Route}
 use Rattle.commit_publish.specs.declared.steps.FailedCall.{FailedCall}
 use Rattle.commit_publish.specs.declared.steps.FailedCall.TheVariants.{OnFile, OnNames}
 use Rattle.commit_publish.specs.declared.publish.PublishErr.{PublishErr}
 use Rattle.commit_publish.specs.declared.publish.PublishErr.TheVariants as PublishErr_
 use Rattle.commit_publish.specs.declared.publish.PublishErr.TheVariants.{NameTaken, Fault, NoMemory}
-use Rattle.commit_protocol.specs.Metadata.{IsAt, OpenErrLeaves}
+use Rattle.commit_protocol.specs.Meanings.{Meanings}
+use Rattle.commit_protocol.specs.Metadata.{IsAt, OpenErrLeaves, metadata_rules}
 use Rattle.commit_protocol.specs.declared.opening.At.{At}
 use Rattle.commit_protocol.specs.declared.change.Built.{Built}
 use Rattle.commit_protocol.specs.declared.change.Built.TheVariants.{Same as Unchanged, Next}
@@ -42,9 +43,9 @@ pub record StaysTable (tree built : Data) : Type 0 where
   pub limit : HasVersionLimit tree → HasVersionLimit built
 
 -- what a change makes of a base
-abbrev pub MakesOf : (Data → Data → Type 0) → (Data → Type 0) → Data → Built → Type 0
-MakesOf successor same tree Unchanged = same tree
-MakesOf successor same tree (Next meta) = successor tree (view meta) × StaysTable tree (view meta)
+abbrev pub MakesOf : Meanings → Data → Built → Type 0
+MakesOf meanings tree Unchanged = meanings.same tree
+MakesOf meanings tree (Next meta) = meanings.successor tree (view meta) × StaysTable tree (view meta)
 
 -- the metadata of the next version: the base's, changed, with the base in its metadata log
 pub record IsNextOf (successor : Data → Data → Type 0) (version now : ℕ) (tree next : Data) : Type 0 where
@@ -60,14 +61,15 @@ pub record Writes (successor : Data → Data → Type 0) (version now : ℕ) (tr
   pub spells : Spells bytes next
 
 -- a new metadata file that a commit draws up: its name comes from a drawn identifier
-pub record Drafted (Drawn : ℕ → Type 0) (successor : Data → Data → Type 0) (table : Parts) (number : Parts → ℕ) (now : ℕ) (at : At) : Type 0 where
+pub record Drafted (Drawn : ℕ → Type 0) (successor : Data → Data → Type 0) (table : Parts) (now : ℕ) (at : At) : Type 0 where
   pub id : ℕ
   pub drawn : Drawn id
-  pub draft : Parts
-  pub draft_is : draft ≡ table ++ folder ∷ draft_name id ∷ []
-  pub target : Parts
-  pub target_is : target ≡ table ++ folder ∷ version_name (at.version + 1) ∷ []
-  pub aim : Aim number draft at.place target
+  pub route : Route
+  pub base_is : route.base ≡ at.place
+  pub text_is : route.text ≡ at.text
+  pub draft_is : route.draft ≡ table ++ folder ∷ draft_name id ∷ []
+  pub target_is : route.target ≡ table ++ folder ∷ version_name (at.version + 1) ∷ []
+  pub aim : Aim (number_in table) route
   pub bytes : List ℕ
   pub writes : Writes successor at.version now (view at.meta) bytes
   pub short : length bytes ≤ file_limit
@@ -89,73 +91,94 @@ limit_path = codes "properties.write.metadata.previous-versions-max"
 abbrev pub TellsLimit : Parts → CommitErr → Type 0
 TellsLimit place e = (e ≡ Attempt (attempts.Read (Damaged place (Path limit_path)))) ⊎ (e ≡ Attempt (attempts.Read Memory))
 
+-- the place at which a failed call of a publish is told
 abbrev pub faulty_place : FailedCall → Parts → Parts → Parts
 faulty_place OnFile draft table = draft
 faulty_place OnNames draft table = table
 
-module _ (number : Parts → ℕ) (Good : GoodBy) (Reached : ReachBy) (allows : Past → Step → Type 0) where
+module _ (table : Parts) (allows : Past → Step → Type 0) where
+  -- no step of ours was taken
   abbrev pub Idle : Past → Past → Type 0
-  Idle = Ran number Good Reached allows (Exactly []) Anything
+  Idle = Ran (metadata_rules table allows) (Exactly []) Anything
 
-  -- the meanings of a change, and what it worked with
-  module _ (successor : Data → Data → Type 0) (same : Data → Type 0) (refuses : Data → AttemptErr → Type 0) (seen : Data → Type 0) (Drawn : ℕ → Type 0) (table : Parts) (now : ℕ) where
+  -- the publish of a file that was drawn up ended so
+  abbrev pub DraftLeaves : (Drawn : ℕ → Type 0) (successor : Data → Data → Type 0) (now : ℕ) (at : At) → Drafted Drawn successor table now at → Result (Unit {0}) PublishErr → Past → Past → Type 0
+  DraftLeaves Drawn successor now at d = PublishLeaves (metadata_rules table allows) d.route d.bytes
+
+  -- of a change with these meanings, at a moment, where identifiers were drawn
+  module _ (meanings : Meanings) (Drawn : ℕ → Type 0) (now : ℕ) where
     -- a file was drawn up, and its publish ended so
     pub record PublishedBy (at : At) (result : Result (Unit {0}) PublishErr) (old new : Past) : Type 0 where
-      pub drafted : Drafted Drawn successor table number now at
-      pub left : PublishLeaves number Good Reached allows at.place at.text drafted.target drafted.draft drafted.bytes result old new
+      pub drafted : Drafted Drawn meanings.successor table now at
+      pub left : DraftLeaves Drawn meanings.successor now at drafted result old new
 
+    -- a file was drawn up, and a call of its publish failed, which is told at this place
     pub record FaultBy (at : At) (place : Parts) (old new : Past) : Type 0 where
       pub call : FailedCall
-      pub drafted : Drafted Drawn successor table number now at
-      pub place_is : place ≡ faulty_place call drafted.draft table
-      pub left : PublishLeaves number Good Reached allows at.place at.text drafted.target drafted.draft drafted.bytes (Err (Fault call)) old new
+      pub drafted : Drafted Drawn meanings.successor table now at
+      pub place_is : place ≡ faulty_place call drafted.route.draft table
+      pub left : DraftLeaves Drawn meanings.successor now at drafted (Err (Fault call)) old new
 
+    -- a file was drawn up, and its name at this place was taken
     pub record TakenBy (at : At) (place : Parts) (old new : Past) : Type 0 where
       pub limit : HasVersionLimit (view at.meta)
-      pub drafted : Drafted Drawn successor table number now at
-      pub place_is : place ≡ drafted.draft
-      pub left : PublishLeaves number Good Reached allows at.place at.text drafted.target drafted.draft drafted.bytes (Err NameTaken) old new
+      pub drafted : Drafted Drawn meanings.successor table now at
+      pub place_is : place ≡ drafted.route.draft
+      pub left : DraftLeaves Drawn meanings.successor now at drafted (Err NameTaken) old new
 
     -- the change refused the base so
     pub record RefusedBy (at : At) (e : AttemptErr) (old new : Past) : Type 0 where
       pub limit : HasVersionLimit (view at.meta)
-      pub refuses_it : refuses (view at.meta) e
+      pub refuses_it : meanings.refuses (view at.meta) e
       pub idle : Idle old new
 
-    -- what an attempt's error says
+    -- the written form of what the change built is too long
+    abbrev pub TooLongBy : At → Parts → Past → Past → Type 0
+    TooLongBy at place old new = HasVersionLimit (view at.meta) × IsTooLong Drawn meanings.successor table now at place × Idle old new
+
+    -- the base's log limit can't be read
+    abbrev pub UnlimitedBy : At → Parts → Past → Past → Type 0
+    UnlimitedBy at place old new = (place ≡ at.place) × (HasVersionLimit (view at.meta) → ⊥) × Idle old new
+
+    -- what an attempt leaves that a file's fault ended
     abbrev pub ReadErrBy : At → ReadErr → Past → Past → Type 0
     ReadErrBy at (Missing place) old new = RefusedBy at (attempts.Read (Missing place)) old new
-    ReadErrBy at (Damaged place where_) old new = RefusedBy at (attempts.Read (Damaged place where_)) old new ⊎ ((place ≡ at.place) × (where_ ≡ Path limit_path) × (HasVersionLimit (view at.meta) → ⊥) × Idle old new)
-    ReadErrBy at (Unsupported place what) old new = RefusedBy at (attempts.Read (Unsupported place what)) old new ⊎ ((what ≡ FileBytes) × HasVersionLimit (view at.meta) × IsTooLong Drawn successor table now at place × Idle old new)
+    ReadErrBy at (Damaged place where_) old new = RefusedBy at (attempts.Read (Damaged place where_)) old new ⊎ ((where_ ≡ Path limit_path) × UnlimitedBy at place old new)
+    ReadErrBy at (Unsupported place what) old new = RefusedBy at (attempts.Read (Unsupported place what)) old new ⊎ ((what ≡ FileBytes) × TooLongBy at place old new)
     ReadErrBy at (StoreFault place) old new = RefusedBy at (attempts.Read (StoreFault place)) old new ⊎ FaultBy at place old new
     ReadErrBy at Memory old new = Idle old new ⊎ PublishedBy at (Err NoMemory) old new
 
+    -- what an attempt leaves that didn't come to its publish or was refused a name
     abbrev pub AttemptErrBy : At → AttemptErr → Past → Past → Type 0
     AttemptErrBy at (attempts.Refused refusal) old new = RefusedBy at (attempts.Refused refusal) old new
     AttemptErrBy at (attempts.Conflict place other) old new = RefusedBy at (attempts.Conflict place other) old new
     AttemptErrBy at (attempts.NameTaken place) old new = RefusedBy at (attempts.NameTaken place) old new ⊎ TakenBy at place old new
     AttemptErrBy at (attempts.Read e) old new = ReadErrBy at e old new
 
+    -- the attempt was for the version after the base's, and its publish ended so
+    abbrev pub NextBy : At → ℕ → Result (Unit {0}) PublishErr → Past → Past → Type 0
+    NextBy at version result old new = (version ≡ at.version + 1) × HasVersionLimit (view at.meta) × PublishedBy at result old new
+
     -- what an attempt on an opened table leaves, by its answer
     abbrev pub AttemptLeaves : At → Result Committed CommitErr → Past → Past → Type 0
-    AttemptLeaves at (Ok (Same version)) old new = (version ≡ at.version) × HasVersionLimit (view at.meta) × same (view at.meta) × seen (view at.meta) × Idle old new
-    AttemptLeaves at (Ok (Published version)) old new = (version ≡ at.version + 1) × HasVersionLimit (view at.meta) × seen (view at.meta) × PublishedBy at (Ok tt) old new
+    AttemptLeaves at (Ok (Same version)) old new = (version ≡ at.version) × HasVersionLimit (view at.meta) × meanings.same (view at.meta) × meanings.seen (view at.meta) × Idle old new
+    AttemptLeaves at (Ok (Published version)) old new = (version ≡ at.version + 1) × HasVersionLimit (view at.meta) × meanings.seen (view at.meta) × PublishedBy at (Ok tt) old new
     AttemptLeaves at (Err (Open e)) old new = ⊥
     AttemptLeaves at (Err (Attempt e)) old new = AttemptErrBy at e old new
-    AttemptLeaves at (Err (Contended version)) old new = (version ≡ at.version + 1) × HasVersionLimit (view at.meta) × PublishedBy at (Err PublishErr_.Contended) old new
-    AttemptLeaves at (Err (CommitUnknown version)) old new = (version ≡ at.version + 1) × HasVersionLimit (view at.meta) × PublishedBy at (Err PublishErr_.Unknown) old new
+    AttemptLeaves at (Err (Contended version)) old new = NextBy at version (Err PublishErr_.Contended) old new
+    AttemptLeaves at (Err (CommitUnknown version)) old new = NextBy at version (Err PublishErr_.Unknown) old new
 
     -- the table was opened, and then an attempt on it ended so
     pub record Attempted (result : Result Committed CommitErr) (old new : Past) : Type 0 where
       pub at : At
       pub mid : Past
-      pub opened : IsAt number Good Reached allows table at old mid
+      pub opened : IsAt table allows at old mid
       pub then : AttemptLeaves at result mid new
 
     -- what a commit of one attempt leaves, by its answer
     abbrev pub CommitLeaves : Result Committed CommitErr → Past → Past → Type 0
     CommitLeaves (Ok c) = Attempted (Ok c)
-    CommitLeaves (Err (Open e)) = OpenErrLeaves number Good Reached allows table e
+    CommitLeaves (Err (Open e)) = OpenErrLeaves table allows e
     CommitLeaves (Err (Attempt e)) = Attempted (Err (Attempt e))
     CommitLeaves (Err (Contended version)) = Attempted (Err (Contended version))
     CommitLeaves (Err (CommitUnknown version)) = Attempted (Err (CommitUnknown version))

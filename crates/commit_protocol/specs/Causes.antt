@@ -11,25 +11,30 @@ use Rattle.commit_protocol.specs.declared.errors.CommitErr.{CommitErr}
 use Rattle.commit_protocol.specs.declared.errors.CommitErr.TheVariants.{Open, Attempt, Contended, CommitUnknown}
 use Rattle.commit_protocol.specs.declared.errors.Committed.{Committed}
 
+-- of an opening that failed
 abbrev pub OpenErrRose : OpenErr → ℕ → ℕ → Type 0
 OpenErrRose (NoTable place) before now = Unit {0}
 OpenErrRose (LocationDiffers place location) before now = Unit {0}
 OpenErrRose (Read e) before now = FaultRose e before now
 
+-- of an opening
 abbrev pub TableRose : Result At OpenErr → ℕ → ℕ → Type 0
 TableRose (Ok at) before now = Unit {0}
 TableRose (Err e) before now = OpenErrRose e before now
 
+-- of an attempt that failed
 abbrev pub AttemptErrRose : AttemptErr → ℕ → ℕ → Type 0
 AttemptErrRose (attempts.Refused refusal) before now = Unit {0}
 AttemptErrRose (attempts.Conflict place other) before now = Unit {0}
 AttemptErrRose (attempts.NameTaken place) before now = Unit {0}
 AttemptErrRose (attempts.Read e) before now = FaultRose e before now
 
+-- of a change that was asked
 abbrev pub AttemptRose : {T : Type 0} → Result T AttemptErr → ℕ → ℕ → Type 0
 AttemptRose (Ok x) before now = Unit {0}
 AttemptRose (Err e) before now = AttemptErrRose e before now
 
+-- of a commit
 abbrev pub CommitRose : Result Committed CommitErr → ℕ → ℕ → Type 0
 CommitRose (Ok c) before now = Unit {0}
 CommitRose (Err (Open e)) before now = OpenErrRose e before now

@@ -1,3 +1,4 @@
+pub mod Meanings
 pub mod Metadata
 pub mod Causes
 pub mod Attempts

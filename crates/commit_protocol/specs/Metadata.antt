@@ -11,11 +11,12 @@ use Rattle.ice_store.specs.declared.faults.Where.{Where}
 use Rattle.ice_store.specs.declared.faults.Where.TheVariants.{Path}
 use Rattle.ice_store.specs.declared.faults.ReadErr.{ReadErr}
 use Rattle.ice_store.specs.declared.faults.ReadErr.TheVariants.{Missing, Damaged, Unsupported, StoreFault, Memory}
-use Rattle.commit_history.specs.Tables.{GoodBy, ReachBy}
+use Rattle.commit_history.specs.Readings.{Content, IsLocal, Reading, Rules, reading_of, rules_of}
+use Rattle.commit_history.specs.Versions.{number_in}
 use Rattle.metadata_form.specs.declared.fault.MetaCause.{MetaCause}
 use Rattle.metadata_form.specs.declared.fault.MetaCause.TheVariants.{NotJson, Fraction, Version, Field, NoManifestList, DoubleId, BrokenRef, BrokenParent}
 use Rattle.table_metadata.specs.Spelling.{Spells, HasFault}
-use Rattle.table_metadata.specs.View.{location_of}
+use Rattle.metadata_view.specs.View.{location_of}
 use Rattle.commit_versions.specs.Opening.{IsOpened, OpenLeaves, ReadErrLeaves}
 use Rattle.commit_versions.specs.Latest.{IsBaseNumber}
 use Rattle.commit_versions.specs.declared.types.Opened.{Opened}
@@ -28,6 +29,7 @@ pub record IsMetadata (table : Parts) (bytes : List ℕ) (tree : Data) : Type 0 
   pub spells : Spells bytes tree
   pub here : place_in (location_of tree) ≡ Ok table
 
+-- the bytes are metadata of the table
 abbrev pub IsTableOf : Parts → List ℕ → Type 0
 IsTableOf table bytes = (tree : Data) × IsMetadata table bytes tree
 
@@ -86,33 +88,50 @@ SaysElsewhere table says (Err (Read (Unsupported place of))) = ⊥
 SaysElsewhere table says (Err (Read (StoreFault place))) = ⊥
 SaysElsewhere table says (Err (Read Memory)) = Unit {0}
 
-module _ (number : Parts → ℕ) (Good : GoodBy) (Reached : ReachBy) (allows : Past → Step → Type 0) where
+-- how the version files of a table are read here: they are good where they are metadata of the table, and they reach nothing
+abbrev pub metadata_content : Parts → Content
+metadata_content table = record { good = λ bytes sealed. IsTableOf table bytes; reached = λ bytes sealed place. ⊥ }
+
+-- so is the table at a place
+abbrev pub metadata_reading : Parts → Reading
+metadata_reading = reading_of metadata_content
+
+-- and others may take these steps
+abbrev pub metadata_rules : Parts → (Past → Step → Type 0) → Rules
+metadata_rules = rules_of metadata_content
+
+-- that reading looks only at what is reached, since nothing is
+pub metadata_local : (table : Parts) → IsLocal (metadata_reading table)
+metadata_local table = record { stays = λ b c d good same. good; reach = λ b c d good same p r. absurd r; there = λ b c p good r. absurd r }
+
+module _ (table : Parts) (allows : Past → Step → Type 0) where
   -- the last version's bytes, opened, of which this holds
   pub record HasOpened (base : Parts) (P : List ℕ → Type 0) (old now : Past) : Type 0 where
     pub text : List ℕ
-    pub opened : IsOpened number Good Reached allows base text old now
+    pub opened : IsOpened (metadata_rules table allows) base text old now
     pub holds : P text
 
   -- a limit on version numbers or on files is passed, or the metadata isn't supported
   abbrev pub TableReadErr : ReadErr → Past → Past → Type 0
-  TableReadErr (Missing place) old now = ReadErrLeaves number Good Reached allows (Missing place) old now
+  TableReadErr (Missing place) old now = ReadErrLeaves (metadata_rules table allows) (Missing place) old now
   TableReadErr (Damaged place at) old now = HasOpened place (λ text. IsDamaged text at) old now
-  TableReadErr (Unsupported place of) old now = ReadErrLeaves number Good Reached allows (Unsupported place of) old now ⊎ HasOpened place (λ text. IsUnsupported text of) old now
-  TableReadErr (StoreFault place) old now = ReadErrLeaves number Good Reached allows (StoreFault place) old now
-  TableReadErr Memory old now = ReadErrLeaves number Good Reached allows Memory old now
+  TableReadErr (Unsupported place of) old now = ReadErrLeaves (metadata_rules table allows) (Unsupported place of) old now ⊎ HasOpened place (λ text. IsUnsupported text of) old now
+  TableReadErr (StoreFault place) old now = ReadErrLeaves (metadata_rules table allows) (StoreFault place) old now
+  TableReadErr Memory old now = ReadErrLeaves (metadata_rules table allows) Memory old now
 
-  abbrev pub OpenErrLeaves : Parts → OpenErr → Past → Past → Type 0
-  OpenErrLeaves table (NoTable place) old now = OpenLeaves number Good Reached allows table (Err (NoTable place)) old now
-  OpenErrLeaves table (LocationDiffers place location) old now = (place ≡ table) × ((base : Parts) × HasOpened base (λ text. IsElsewhere table text location) old now)
-  OpenErrLeaves table (Read e) old now = TableReadErr e old now
+  -- what opening a table leaves where it isn't opened, by the cause
+  abbrev pub OpenErrLeaves : OpenErr → Past → Past → Type 0
+  OpenErrLeaves (NoTable place) old now = OpenLeaves (metadata_rules table allows) table (Err (NoTable place)) old now
+  OpenErrLeaves (LocationDiffers place location) old now = (place ≡ table) × ((base : Parts) × HasOpened base (λ text. IsElsewhere table text location) old now)
+  OpenErrLeaves (Read e) old now = TableReadErr e old now
 
   -- a table opened at its last version
-  pub record IsAt (table : Parts) (at : At) (old now : Past) : Type 0 where
-    pub opened : IsOpened number Good Reached allows at.place at.text old now
-    pub numbers : IsBaseNumber number at.place at.version
+  pub record IsAt (at : At) (old now : Past) : Type 0 where
+    pub opened : IsOpened (metadata_rules table allows) at.place at.text old now
+    pub numbers : IsBaseNumber (number_in table) at.place at.version
     pub metadata : IsMetadata table at.text (view at.meta)
 
   -- what opening a table leaves, by its answer
-  abbrev pub TableLeaves : Parts → Result At OpenErr → Past → Past → Type 0
-  TableLeaves table (Ok at) = IsAt table at
-  TableLeaves table (Err e) = OpenErrLeaves table e
+  abbrev pub TableLeaves : Result At OpenErr → Past → Past → Type 0
+  TableLeaves (Ok at) = IsAt at
+  TableLeaves (Err e) = OpenErrLeaves e

@@ -8,12 +8,12 @@ use Rattle.ice_store.specs.declared.history.FileRec.{FileRec}
 use Rattle.ice_store.specs.declared.history.Past.{Past}
 use Rattle.commit_history.specs.Tables.{Whole, table as table_in}
 use Rattle.commit_history.specs.Versions.{number_in}
-use Rattle.commit_history.specs.Commits.{IsLast, standing, found}
+use Rattle.commit_history.specs.Commits.{Tables, IsLast, standing, found}
 use Rattle.commit_history.specs.Steady.{IsSteady}
 use Rattle.table_metadata.specs.Spelling.{Spells}
-use Rattle.commit_publish.specs.Stages.{Narrow, NoReach, Holds}
+use Rattle.commit_publish.specs.Stages.{Holds}
 use Rattle.commit_protocol.specs.Attempts.{IsNextOf}
-use Rattle.commit_protocol.specs.Metadata.{IsTableOf}
+use Rattle.commit_protocol.specs.Metadata.{metadata_reading}
 use Rattle.commit_protocol.specs.Verdicts.{IsTable}
 use Rattle.commit_protocol.specs.declared.errors.CommitErr.{CommitErr}
 use Rattle.commit_protocol.specs.declared.errors.Committed.{Committed}
@@ -34,7 +34,7 @@ pub record Succession (successor : Data → Data → Type 0) (table : Parts) (no
   pub next_is : IsNextOf successor last now tree next
   pub spells : Spells bytes next
   pub acknowledged : Holds (standing (number_in table) new).acknowledged (Some bytes ∷ [])
-  pub behind : IsSteady (number_in table) (Narrow IsTableOf table) NoReach old → Holds (standing (number_in table) new).acknowledged (Some text ∷ Some bytes ∷ [])
+  pub behind : IsSteady (metadata_reading table) old → Holds (standing (number_in table) new).acknowledged (Some text ∷ Some bytes ∷ [])
 
 -- a version that a commit published is a successor of the one before it
 abbrev pub Succeeds : (Data → Data → Type 0) → Parts → ℕ → Result Committed CommitErr → Past → Past → Type 0
@@ -44,10 +44,18 @@ Succeeds successor table now (Err e) old new = Unit {0}
 
 -- Stops.
 
+-- all commits of a history, in order
+abbrev pub commits_at : Parts → Past → Tables
+commits_at table past = (standing (number_in table) past).acknowledged ++ (standing (number_in table) past).unacknowledged
+
+-- its acknowledged commits, and so many of those that aren't
+abbrev pub commits_before : Parts → Past → ℕ → Tables
+commits_before table past count = (standing (number_in table) past).acknowledged ++ take count (standing (number_in table) past).unacknowledged
+
 -- a premise of what is promised of stops: the map is whole, its table is the last of the commits, and no name change of Us is pending
 pub record IsWholeAt (table : Parts) (past : Past) : Type 0 where
-  pub whole : Whole (number_in table) (Narrow IsTableOf table) (replay past).files
-  pub last : IsLast ((standing (number_in table) past).acknowledged ++ (standing (number_in table) past).unacknowledged) (table_in (number_in table) (replay past).files)
+  pub whole : Whole (metadata_reading table) (replay past).files
+  pub last : IsLast (commits_at table past) (table_in (number_in table) (replay past).files)
   pub at_rest : (replay past).pending ≡ []
 
 -- this holds of each stop between two moments, before, between and behind the events, and of everything that the disk may leave there
@@ -59,11 +67,11 @@ pub record AtEachStop (old new : Past) (P : Past → List FileRec → Type 0) : 
 -- the map that was found has as its table the last of a prefix of the commits, a prefix that holds every acknowledged one
 pub record HasPrefix (table : Parts) (past : Past) (files : List FileRec) : Type 0 where
   pub count : ℕ
-  pub last : IsLast ((standing (number_in table) past).acknowledged ++ take count (standing (number_in table) past).unacknowledged) (table_in (number_in table) (found files))
+  pub last : IsLast (commits_before table past count) (table_in (number_in table) (found files))
 
 -- the map that was found is whole
 abbrev pub HasFiles : Parts → Past → List FileRec → Type 0
-HasFiles table past files = Whole (number_in table) (Narrow IsTableOf table) (found files)
+HasFiles table past files = Whole (metadata_reading table) (found files)
 
 -- from a whole table on, whatever a stop leaves has as its table the last of a prefix of the commits that holds every acknowledged one
 abbrev pub StopsHavePrefix : Parts → Past → Past → Type 0

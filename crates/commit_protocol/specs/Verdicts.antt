@@ -5,6 +5,7 @@ use Rattle.serde_json.specs.View.{view}
 use Rattle.serde_json.specs.Written.{compact_text}
 use Rattle.ice_store.specs.Places.{Parts}
 use Rattle.ice_store.specs.Files.{is_named}
+use Rattle.ice_store.specs.History.{replay}
 use Rattle.ice_store.specs.declared.history.Held.{Held}
 use Rattle.ice_store.specs.declared.history.Past.{Past}
 use Rattle.ice_store.specs.declared.history.Step.{Step}
@@ -20,6 +21,7 @@ use Rattle.commit_versions.specs.Latest.{IsBaseNumber}
 use Rattle.commit_versions.specs.Opening.{FileIs, IsBeyond, file_limit}
 use Rattle.commit_versions.specs.declared.types.OpenErr.{OpenErr}
 use Rattle.commit_versions.specs.declared.types.OpenErr.TheVariants.{NoTable, LocationDiffers, Read}
+use Rattle.commit_protocol.specs.Meanings.{Meanings}
 use Rattle.commit_protocol.specs.Metadata.{IsMetadata, IsElsewhere, IsDamaged, IsUnsupported}
 use Rattle.commit_protocol.specs.Attempts.{IsNextOf, limit_path}
 use Rattle.commit_protocol.specs.Written.{draft_at}
@@ -111,14 +113,16 @@ pub record IsUnlimited (table : Parts) (files : List Held) (place : Parts) : Typ
   pub is : IsTable table files place last bytes tree
   pub unlimited : HasVersionLimit tree → ⊥
 
+-- no more bytes than a metadata file may have
 abbrev pub IsShort : ℕ → Type 0
 IsShort n = n ≤ file_limit
 
+-- more than that
 abbrev pub IsLongText : ℕ → Type 0
 IsLongText n = file_limit < n
 
--- the meanings of a change, and what the commit works with
-module _ (successor : Data → Data → Type 0) (same : Data → Type 0) (refuses : Data → AttemptErr → Type 0) (Drawn : ℕ → Type 0) (table : Parts) (now : ℕ) where
+-- a change that makes such successors at a moment, where identifiers were drawn
+module _ (successor : Data → Data → Type 0) (Drawn : ℕ → Type 0) (table : Parts) (now : ℕ) where
   -- the change builds a next version; its new file's name comes from a drawn identifier, and this holds of the length of its written form
   pub record DrawsUp (Long : ℕ → Type 0) (last : ℕ) (tree : Data) (draft : Parts) : Type 0 where
     pub id : ℕ
@@ -134,17 +138,35 @@ module _ (successor : Data → Data → Type 0) (same : Data → Type 0) (refuse
     pub drawn_up : DrawsUp IsShort last tree draft
     pub free : is_named files draft ≡ false
 
+-- a change with these meanings, at a moment, where identifiers were drawn
+module _ (meanings : Meanings) (Drawn : ℕ → Type 0) (table : Parts) (now : ℕ) where
+  -- the base is refused so
+  abbrev pub RefusesBase : List Held → AttemptErr → Type 0
+  RefusesBase files e = OnBase table files (λ last tree. meanings.refuses tree e)
+
+  -- the change builds a next version, of whose written form's length this holds, and whose new file goes to this place
+  abbrev pub Draws : (ℕ → Type 0) → ℕ → Data → Parts → Type 0
+  Draws = DrawsUp meanings.successor Drawn table now
+
+  -- the new file's name is taken, or the change refuses the base so
+  abbrev pub IsNameTaken : List Held → Parts → Type 0
+  IsNameTaken files place = OnBase table files (λ last tree. meanings.refuses tree (attempts.NameTaken place) ⊎ (Draws IsShort last tree place × (is_named files place ≡ true)))
+
+  -- the written form is too long, or the change refuses the base so
+  abbrev pub IsUnsupportedText : List Held → Parts → What → Type 0
+  IsUnsupportedText files place what = OnBase table files (λ last tree. meanings.refuses tree (attempts.Read (Unsupported place what)) ⊎ ((what ≡ FileBytes) × Draws IsLongText last tree place))
+
   -- the cause of a commit's answer in these files; that of a store fault and of an unknown commit is the count of faults, and want of memory is free
   abbrev pub CommitVerdict : List Held → Result Committed CommitErr → Type 0
-  CommitVerdict files (Ok (Same v)) = OnBase table files (λ last tree. (v ≡ last) × same tree)
-  CommitVerdict files (Ok (Published v)) = OnBase table files (λ last tree. (v ≡ last + 1) × IsFree files last tree)
+  CommitVerdict files (Ok (Same v)) = OnBase table files (λ last tree. (v ≡ last) × meanings.same tree)
+  CommitVerdict files (Ok (Published v)) = OnBase table files (λ last tree. (v ≡ last + 1) × IsFree meanings.successor Drawn table now files last tree)
   CommitVerdict files (Err (Open e)) = OpenVerdict table files (Err e)
-  CommitVerdict files (Err (Attempt (attempts.Refused refusal))) = OnBase table files (λ last tree. refuses tree (attempts.Refused refusal))
-  CommitVerdict files (Err (Attempt (attempts.Conflict place other))) = OnBase table files (λ last tree. refuses tree (attempts.Conflict place other))
-  CommitVerdict files (Err (Attempt (attempts.NameTaken place))) = OnBase table files (λ last tree. refuses tree (attempts.NameTaken place) ⊎ (DrawsUp IsShort last tree place × (is_named files place ≡ true)))
-  CommitVerdict files (Err (Attempt (attempts.Read (Missing place)))) = OnBase table files (λ last tree. refuses tree (attempts.Read (Missing place)))
-  CommitVerdict files (Err (Attempt (attempts.Read (Damaged place at)))) = OnBase table files (λ last tree. refuses tree (attempts.Read (Damaged place at))) ⊎ ((at ≡ Path limit_path) × IsUnlimited table files place)
-  CommitVerdict files (Err (Attempt (attempts.Read (Unsupported place what)))) = OnBase table files (λ last tree. refuses tree (attempts.Read (Unsupported place what)) ⊎ ((what ≡ FileBytes) × DrawsUp IsLongText last tree place))
+  CommitVerdict files (Err (Attempt (attempts.Refused refusal))) = RefusesBase files (attempts.Refused refusal)
+  CommitVerdict files (Err (Attempt (attempts.Conflict place other))) = RefusesBase files (attempts.Conflict place other)
+  CommitVerdict files (Err (Attempt (attempts.NameTaken place))) = IsNameTaken files place
+  CommitVerdict files (Err (Attempt (attempts.Read (Missing place)))) = RefusesBase files (attempts.Read (Missing place))
+  CommitVerdict files (Err (Attempt (attempts.Read (Damaged place at)))) = RefusesBase files (attempts.Read (Damaged place at)) ⊎ ((at ≡ Path limit_path) × IsUnlimited table files place)
+  CommitVerdict files (Err (Attempt (attempts.Read (Unsupported place what)))) = IsUnsupportedText files place what
   CommitVerdict files (Err (Attempt (attempts.Read (StoreFault place)))) = Unit {0}
   CommitVerdict files (Err (Attempt (attempts.Read Memory))) = Unit {0}
   CommitVerdict files (Err (Contended v)) = ⊥
@@ -176,12 +198,14 @@ IsReadTold (Unsupported place what) = Unit {0}
 IsReadTold (StoreFault place) = ⊥
 IsReadTold Memory = ⊥
 
+-- and of an opening
 abbrev pub IsOpeningTold : Result At OpenErr → Type 0
 IsOpeningTold (Ok at) = Unit {0}
 IsOpeningTold (Err (NoTable place)) = Unit {0}
 IsOpeningTold (Err (LocationDiffers place location)) = Unit {0}
 IsOpeningTold (Err (Read e)) = IsReadTold e
 
+-- and of a commit
 abbrev pub IsTold : Result Committed CommitErr → Type 0
 IsTold (Ok c) = Unit {0}
 IsTold (Err (Open e)) = IsOpeningTold (Err e)
@@ -199,13 +223,15 @@ pub record Shown : Type 0 where
   pub bytes : List ℕ
   pub tree : Data
 
+-- what an answer of an opening shows
 abbrev pub shown : Result At OpenErr → Result Shown OpenErr
 shown (Ok at) = Ok (record { place = at.place; last = at.version; bytes = at.text; tree = view at.meta })
 shown (Err e) = Err e
 
 -- two told verdicts of one opening show the same
 abbrev pub IsOneOpening : Parts → Type 0
-IsOneOpening table = (files : List Held) (r s : Result At OpenErr) → IsOpeningTold r → IsOpeningTold s → OpenVerdict table files r → OpenVerdict table files s → shown r ≡ shown s
+IsOneOpening table = (files : List Held) (r s : Result At OpenErr) → IsOpeningTold r → IsOpeningTold s
+    → OpenVerdict table files r → OpenVerdict table files s → shown r ≡ shown s
 
 -- a refusal by what the table has, or want of memory
 abbrev pub IsPlain : AttemptErr → Type 0
@@ -219,27 +245,39 @@ IsPlain (attempts.Read (StoreFault place)) = ⊥
 IsPlain (attempts.Read Memory) = Unit {0}
 
 -- the meanings of a change exclude one another, and each gives one answer; it refuses by what the table has alone
-pub record IsDecided (successor : Data → Data → Type 0) (same : Data → Type 0) (refuses : Data → AttemptErr → Type 0) : Type 0 where
-  pub plain : (tree : Data) (e : AttemptErr) → refuses tree e → IsPlain e
-  pub one_refusal : (tree : Data) (r s : Refusal) → refuses tree (attempts.Refused r) → refuses tree (attempts.Refused s) → r ≡ s
-  pub one_successor : (tree a b : Data) → successor tree a → successor tree b → a ≡ b
-  pub built_or_same : (tree built : Data) → successor tree built → same tree → ⊥
-  pub built_or_refused : (tree built : Data) (r : Refusal) → successor tree built → refuses tree (attempts.Refused r) → ⊥
-  pub same_or_refused : (tree : Data) (r : Refusal) → same tree → refuses tree (attempts.Refused r) → ⊥
+pub record IsDecided (meanings : Meanings) : Type 0 where
+  pub plain : (tree : Data) (e : AttemptErr) → meanings.refuses tree e → IsPlain e
+  pub one_refusal : (tree : Data) (r s : Refusal) → meanings.refuses tree (attempts.Refused r) → meanings.refuses tree (attempts.Refused s) → r ≡ s
+  pub one_successor : (tree a b : Data) → meanings.successor tree a → meanings.successor tree b → a ≡ b
+  pub built_or_same : (tree built : Data) → meanings.successor tree built → meanings.same tree → ⊥
+  pub built_or_refused : (tree built : Data) (r : Refusal) → meanings.successor tree built → meanings.refuses tree (attempts.Refused r) → ⊥
+  pub same_or_refused : (tree : Data) (r : Refusal) → meanings.same tree → meanings.refuses tree (attempts.Refused r) → ⊥
 
 -- at most one identifier was drawn
 abbrev pub IsOneDrawn : (ℕ → Type 0) → Type 0
 IsOneDrawn Drawn = (a b : ℕ) → Drawn a → Drawn b → a ≡ b
 
 -- two told verdicts of one commit are one
-abbrev pub IsOneCommit : Parts → ℕ → (Data → Data → Type 0) → (Data → Type 0) → (Data → AttemptErr → Type 0) → (ℕ → Type 0) → Type 0
-IsOneCommit table now successor same refuses Drawn = (files : List Held) (r s : Result Committed CommitErr) → IsTold r → IsTold s
-    → CommitVerdict successor same refuses Drawn table now files r → CommitVerdict successor same refuses Drawn table now files s → r ≡ s
+abbrev pub IsOneCommit : Parts → ℕ → Meanings → (ℕ → Type 0) → Type 0
+IsOneCommit table now meanings Drawn = (files : List Held) (r s : Result Committed CommitErr) → IsTold r → IsTold s
+    → CommitVerdict meanings Drawn table now files r → CommitVerdict meanings Drawn table now files s → r ≡ s
 
--- Where such an answer's cause stands in these files, it is the answer given, but for want of memory and faults.
+-- Exactly.
 
+-- where an answer's cause stands in these files, the opening's answer shows the same, but for want of memory and faults
 abbrev pub IsExactOpening : Parts → Result At OpenErr → List Held → Type 0
 IsExactOpening table result files = (r : Result At OpenErr) → IsOpeningTold r → OpenVerdict table files r → IsOpeningTold result → shown result ≡ shown r
 
-abbrev pub IsExactCommit : (Data → Data → Type 0) → (Data → Type 0) → (Data → AttemptErr → Type 0) → (ℕ → Type 0) → Parts → ℕ → Result Committed CommitErr → List Held → Type 0
-IsExactCommit successor same refuses Drawn table now result files = (r : Result Committed CommitErr) → IsTold r → CommitVerdict successor same refuses Drawn table now files r → IsTold result → result ≡ r
+-- where an answer's cause stands in these files, it is the commit's answer, but for want of memory and faults
+abbrev pub IsExactCommit : Meanings → (ℕ → Type 0) → Parts → ℕ → Result Committed CommitErr → List Held → Type 0
+IsExactCommit meanings Drawn table now result files = (r : Result Committed CommitErr) → IsTold r → CommitVerdict meanings Drawn table now files r → IsTold result → result ≡ r
+
+-- Of a call between two moments.
+
+-- the answer of a commit has its cause in the files at the entry
+abbrev pub IsCaused : Meanings → (ℕ → Type 0) → Parts → ℕ → Result Committed CommitErr → Past → Past → Type 0
+IsCaused meanings Drawn table now result old new = CommitVerdict meanings Drawn table now (replay old).files result
+
+-- where nobody else acts, the meanings exclude one another and one identifier was drawn, the answer whose cause stands in the files at the entry is the one given
+abbrev pub IsExactly : (Past → Step → Type 0) → Meanings → (ℕ → Type 0) → Parts → ℕ → Result Committed CommitErr → Past → Past → Type 0
+IsExactly allows meanings Drawn table now result old new = IsNobody allows → IsDecided meanings → IsOneDrawn Drawn → IsExactCommit meanings Drawn table now result (replay old).files

@@ -4,24 +4,27 @@ use Rattle.serde_json.specs.Data.{Data}
 use Rattle.serde_json.specs.View.{view}
 use Rattle.serde_json.specs.Written.{compact_text}
 use Rattle.ice_store.specs.Places.{Parts}
+use Rattle.ice_store.specs.Calls.{Rose}
 use Rattle.ice_store.specs.declared.history.Past.{Past}
 use Rattle.ice_store.specs.declared.history.Step.{Step}
 use Rattle.ice_store.specs.declared.faults.What.TheVariants.{FileBytes}
 use Rattle.ice_store.specs.declared.faults.ReadErr.TheVariants.{Missing, Damaged, Unsupported, StoreFault, Memory}
-use Rattle.commit_history.specs.Tables.{GoodBy, ReachBy}
 use Rattle.commit_history.specs.Versions.{number_in, folder}
-use Rattle.table_metadata.specs.View.{location_of}
-use Rattle.table_metadata.specs.Edits.{next_version}
+use Rattle.metadata_view.specs.View.{location_of}
+use Rattle.table_metadata.specs.Edits.{HasVersionLimit, next_version}
 use Rattle.commit_publish.specs.Stages.{Aim}
-use Rattle.commit_publish.specs.Left.{IsNaming}
+use Rattle.commit_publish.specs.Left.{IsNaming, Notes}
 use Rattle.commit_publish.specs.declared.steps.FailedCall.TheVariants.{OnFile, OnNames}
+use Rattle.commit_publish.specs.declared.publish.Log.{Log}
 use Rattle.commit_publish.specs.declared.publish.PublishErr.{PublishErr}
 use Rattle.commit_publish.specs.declared.publish.PublishErr.TheVariants as publishes
 use Rattle.commit_versions.specs.Names.{version_text_of, version_name, draft_name}
 use Rattle.commit_versions.specs.Opening.{file_limit}
+use Rattle.commit_protocol.specs.Meanings.{only}
 use Rattle.commit_protocol.specs.Metadata.{IsMetadata}
 use Rattle.commit_protocol.specs.Attempts.{AttemptLeaves}
 use Rattle.commit_protocol.specs.declared.opening.At.{At}
+use Rattle.commit_protocol.specs.declared.committing.Base.{Base}
 use Rattle.commit_protocol.specs.declared.committing.Written.{Written}
 use Rattle.commit_protocol.specs.declared.errors.AttemptErr.{AttemptErr}
 use Rattle.commit_protocol.specs.declared.errors.AttemptErr.TheVariants as attempts
@@ -30,32 +33,53 @@ use Rattle.commit_protocol.specs.declared.errors.CommitErr.TheVariants.{Open, At
 use Rattle.commit_protocol.specs.declared.errors.Committed.{Committed}
 use Rattle.commit_protocol.specs.declared.errors.Committed.TheVariants.{Same, Published}
 
--- the metadata of the version after `at`, built as `built`
-abbrev pub next_tree : At → Data → ℕ → Data
-next_tree at built now = next_version (version_text_of (location_of (view at.meta)) at.version) now built
+-- the place of the new metadata file whose name a drawn identifier gives
+abbrev pub draft_at : Parts → ℕ → Parts
+draft_at table id = table ++ folder ∷ draft_name id ∷ []
 
-pub record IsWritten (table : Parts) (at : At) (built : Data) (now id : ℕ) (w : Written) : Type 0 where
+-- the place of the version file with this number
+abbrev pub version_at : Parts → ℕ → Parts
+version_at table version = table ++ folder ∷ version_name version ∷ []
+
+-- what a commit keeps of an opened table
+pub record IsOn (base : Base) (at : At) : Type 0 where
+  pub place_is : base.place ≡ at.place
+  pub version_is : base.version ≡ at.version
+  pub text_is : base.text ≡ at.text
+  pub previous_is : base.previous ≡ version_text_of (location_of (view at.meta)) at.version
+
+-- the metadata of the version after a base, built as `built`
+abbrev pub next_tree : Base → Data → ℕ → Data
+next_tree base built now = next_version base.previous now built
+
+-- a new metadata file is drawn up: where it goes, and the bytes, which are metadata of the table and not too long
+pub record IsWritten (table : Parts) (base : Base) (built : Data) (now id : ℕ) (w : Written) : Type 0 where
   pub table_is : w.route.table ≡ table
-  pub base : w.route.base ≡ at.place
-  pub text : w.route.text ≡ at.text
-  pub draft : w.route.draft ≡ table ++ folder ∷ draft_name id ∷ []
-  pub target : w.route.target ≡ table ++ folder ∷ version_name (at.version + 1) ∷ []
-  pub aim : Aim (number_in table) w.route.draft w.route.base w.route.target
-  pub written : w.bytes ≡ compact_text (next_tree at built now)
-  pub spells : IsMetadata table w.bytes (next_tree at built now)
+  pub base_is : w.route.base ≡ base.place
+  pub text_is : w.route.text ≡ base.text
+  pub draft_is : w.route.draft ≡ draft_at table id
+  pub target_is : w.route.target ≡ version_at table (base.version + 1)
+  pub aim : Aim (number_in table) w.route
+  pub written : w.bytes ≡ compact_text (next_tree base built now)
+  pub spells : IsMetadata table w.bytes (next_tree base built now)
   pub short : length w.bytes ≤ file_limit
 
--- memory lacked, or the written form is too long
-abbrev pub IsUnwritten : Parts → At → Data → ℕ → ℕ → AttemptErr → Type 0
-IsUnwritten table at built now id (attempts.Refused refusal) = ⊥
-IsUnwritten table at built now id (attempts.Conflict place other) = ⊥
-IsUnwritten table at built now id (attempts.NameTaken place) = ⊥
-IsUnwritten table at built now id (attempts.Read (Missing place)) = ⊥
-IsUnwritten table at built now id (attempts.Read (Damaged place where_)) = ⊥
-IsUnwritten table at built now id (attempts.Read (Unsupported place what)) = (what ≡ FileBytes) × (place ≡ table ++ folder ∷ draft_name id ∷ []) × (file_limit < length (compact_text (next_tree at built now)))
-IsUnwritten table at built now id (attempts.Read (StoreFault place)) = ⊥
-IsUnwritten table at built now id (attempts.Read Memory) = Unit {0}
+-- a text longer than a metadata file may be
+abbrev pub IsOverlimit : List ℕ → Type 0
+IsOverlimit text = file_limit < length text
 
+-- memory lacked, or the written form is too long
+abbrev pub IsUnwritten : Parts → Base → Data → ℕ → ℕ → AttemptErr → Type 0
+IsUnwritten table base built now id (attempts.Refused refusal) = ⊥
+IsUnwritten table base built now id (attempts.Conflict place other) = ⊥
+IsUnwritten table base built now id (attempts.NameTaken place) = ⊥
+IsUnwritten table base built now id (attempts.Read (Missing place)) = ⊥
+IsUnwritten table base built now id (attempts.Read (Damaged place where_)) = ⊥
+IsUnwritten table base built now id (attempts.Read (Unsupported place what)) = (what ≡ FileBytes) × (place ≡ draft_at table id) × IsOverlimit (compact_text (next_tree base built now))
+IsUnwritten table base built now id (attempts.Read (StoreFault place)) = ⊥
+IsUnwritten table base built now id (attempts.Read Memory) = Unit {0}
+
+-- what the error of a publish of this draft and version is at the commit
 abbrev pub commit_error_by : PublishErr → Parts → Parts → ℕ → CommitErr
 commit_error_by publishes.NameTaken draft table version = Attempt (attempts.NameTaken draft)
 commit_error_by publishes.Contended draft table version = Contended version
@@ -64,17 +88,9 @@ commit_error_by (publishes.Fault OnFile) draft table version = Attempt (attempts
 commit_error_by (publishes.Fault OnNames) draft table version = Attempt (attempts.Read (StoreFault table))
 commit_error_by publishes.NoMemory draft table version = Attempt (attempts.Read Memory)
 
--- a change whose only successor is this tree: what is known of a built one
-module _ (number : Parts → ℕ) (Good : GoodBy) (Reached : ReachBy) (allows : Past → Step → Type 0) (Drawn : ℕ → Type 0) (table : Parts) (now : ℕ) where
-  abbrev pub PublishedLeaves : At → Data → Result Committed CommitErr → Past → Past → Type 0
-  PublishedLeaves at built = AttemptLeaves number Good Reached allows (λ a b. b ≡ built) (λ a. ⊥) (λ a e. ⊥) (λ a. Unit {0}) Drawn table now at
-
--- the place of the new metadata file whose name a drawn identifier gives, and of the version after it
-abbrev pub draft_at : Parts → ℕ → Parts
-draft_at table id = table ++ folder ∷ draft_name id ∷ []
-
-abbrev pub version_at : Parts → ℕ → Parts
-version_at table version = table ++ folder ∷ version_name version ∷ []
+-- what an attempt leaves whose change made this successor of the base, and no other
+abbrev pub PublishedLeaves : Parts → (Past → Step → Type 0) → (ℕ → Type 0) → ℕ → Base → Data → Result Committed CommitErr → Past → Past → Type 0
+PublishedLeaves table allows Drawn now base built result old new = (at : At) → IsOn base at → HasVersionLimit (view at.meta) → AttemptLeaves table allows (only built) Drawn now at result old new
 
 -- nothing was left, or the new metadata file
 abbrev pub MayLeaveDraft : (ℕ → Type 0) → Parts → List Parts → List Parts → Type 0
@@ -116,3 +132,7 @@ abbrev pub commit_count : Result Committed CommitErr → ℕ
 commit_count (Ok (Same version)) = 0
 commit_count (Ok (Published version)) = 1
 commit_count (Err e) = 0
+
+-- what a commit notes: the log has behind what it had exactly the places that the commit's steps left, and one of a failed step only where the count of faults rose
+abbrev pub CommitNotes : ℕ → ℕ → (ℕ → Type 0) → Parts → Result Committed CommitErr → Log → Log → Past → Past → Type 0
+CommitNotes before now Drawn table result had has = Notes (Rose before now) (IsNamingOf Drawn table) (commit_count result) [] had.left.items has.left.items

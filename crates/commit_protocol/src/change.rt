@@ -7,20 +7,20 @@ ghost use Rattle.serde_json.specs.View.{view};
 ghost use Rattle.commit_history.specs.Mannered.{IsMannered};
 ghost use Rattle.commit_history.specs.Runs.{Ran};
 ghost use Rattle.commit_history.specs.Versions.{number_in};
-ghost use Rattle.commit_publish.specs.Stages.{Narrow, NoReach, Exactly, InState};
+ghost use Rattle.commit_publish.specs.Stages.{Exactly, InState};
 ghost use Rattle.commit_publish.specs.Leaves.{Halts};
 ghost use Rattle.commit_versions.specs.Opening.{OpenStage};
-ghost use Rattle.commit_protocol.specs.Metadata.{IsTableOf};
+ghost use Rattle.commit_protocol.specs.Meanings.{Meanings};
+ghost use Rattle.commit_protocol.specs.Metadata.{metadata_rules};
 ghost use Rattle.commit_protocol.specs.Attempts.{MakesOf};
 ghost use Rattle.commit_protocol.specs.Causes.{AttemptRose};
 ghost use Rattle.commit_protocol.specs.declared.errors.AttemptErr.{AttemptErr as Refused};
 
 use crate::errors::AttemptErr;
-use crate::opening::At;
+use commit_publish::Log;
 use ice_store::{Ids, Manners, Place, Store};
 use std::alloc::Global;
 use table_metadata::Meta;
-use commit_publish::Log;
 
 /// What a change makes of a base.
 #[derive(Drop)]
@@ -33,38 +33,33 @@ pub enum Built {
 
 /// A change of a table: it builds new metadata of a base, reads files if need be, and changes nothing in the store.
 pub trait Change<M: Manners> {
-    /// The second metadata is the first with this change.
-    ghost successor: { Self → Tree → Tree → Type 0 };
+    /// What the change means, as it was when it was asked (the first) and as it is now: the second plays a part only in
+    /// what was kept of the base (`seen`).
+    ghost meanings: { Self → Self → Meanings };
 
-    /// There is nothing to change.
-    ghost same: { Self → Tree → Type 0 };
-
-    /// The base is refused so.
-    ghost refuses: { Self → Tree → Refused → Type 0 };
-
-    /// What the change, as it was and as it is now, has kept of the base on which it was asked.
-    ghost seen: { Self → Self → Tree → Type 0 };
-
+    /// Builds the change on a base: the metadata `meta` of the version file at `base`. The metadata is given away, so that
+    /// it can be changed in place. `now` is in milliseconds since 1970-01-01 UTC.
     fn attempt<S: Store<M>, I: Ids>(
         &mut self,
         alloc: Global,
         store: &mut S,
         ids: &mut I,
         table: &Place,
-        base: &At,
+        base: &Place,
+        meta: Meta,
         now: u64,
         log: &mut Log,
     ) -> Result<Built, AttemptErr>
-        requires mannered { IsMannered (number_in table.now) (Narrow IsTableOf table.now) NoReach (M.allows (S.manners store.old)) }
-        requires start { WhereTold (S.past store.old) (InState (OpenStage (number_in table.now) base.now.place)) }
+        requires mannered { IsMannered (metadata_rules table.now (M.allows (S.manners store.old))) }
+        requires start { WhereTold (S.past store.old) (InState (OpenStage (number_in table.now) base.now)) }
         requires moment { now < 2 ^ 63 }
-        ensures told { Since (S.past store.old) (S.past store.new) (Ran (number_in table.now) (Narrow IsTableOf table.now) NoReach (M.allows (S.manners store.old)) (Exactly []) (InState (OpenStage (number_in table.now) base.now.place))) }
-        ensures built { IfOk result (MakesOf (successor self.old) (same self.old) (view base.now.meta)) }
-        ensures seen { OnOk result (seen self.old self.new (view base.now.meta)) }
-        ensures refused { IfErr result (refuses self.old (view base.now.meta)) }
-        ensures keeps_successor { (a b : Tree) → successor self.new a b → successor self.old a b }
-        ensures keeps_same { (a : Tree) → same self.new a → same self.old a }
-        ensures keeps_refuses { (a : Tree) (e : Refused) → refuses self.new a e → refuses self.old a e }
+        ensures told { Since (S.past store.old) (S.past store.new) (Ran (metadata_rules table.now (M.allows (S.manners store.old))) (Exactly []) (InState (OpenStage (number_in table.now) base.now))) }
+        ensures built { IfOk result (MakesOf (meanings self.old self.new) (view meta)) }
+        ensures seen { OnOk result ((meanings self.old self.new).seen (view meta)) }
+        ensures refused { IfErr result ((meanings self.old self.new).refuses (view meta)) }
+        ensures keeps_successor { (a b : Tree) → (meanings self.new self.new).successor a b → (meanings self.old self.new).successor a b }
+        ensures keeps_same { (a : Tree) → (meanings self.new self.new).same a → (meanings self.old self.new).same a }
+        ensures keeps_refuses { (a : Tree) (e : Refused) → (meanings self.new self.new).refuses a e → (meanings self.old self.new).refuses a e }
         ensures drawn { I.given ids.new ≡ I.given ids.old }
         ensures committed { log.new.committed.items ≡ log.old.committed.items }
         ensures left { log.new.left.items ≡ log.old.left.items }

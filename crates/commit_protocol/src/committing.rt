@@ -1,73 +1,87 @@
 //! A commit: the table is opened, the change asked, and what it built published as the next version.
-ghost use Rattle.std.specs.Prelude.{◌≡◌, ◌≤◌, ◌<◌, ◌+◌, ◌^◌, ◌++◌, ◌∷◌, [], ℕ, Err, IfOk, IfErr, IsUtf8};
-ghost use Rattle.ice_store.specs.Others.{WhereTold};
-ghost use Rattle.ice_store.specs.Since.{Since};
+ghost use Rattle.std.specs.Prelude.{◌≡◌, ◌≤◌, ◌<◌, ◌+◌, ◌^◌, ℕ, Ok, Err, IfOk, IfErr, IsUtf8};
 ghost use Rattle.ice_store.specs.Given.{Gives};
+ghost use Rattle.ice_store.specs.Others.{WhereTold};
+ghost use Rattle.ice_store.specs.Places.{Parts, place_in};
+ghost use Rattle.ice_store.specs.Since.{Since};
 ghost use Rattle.serde_json.specs.View.{view};
+ghost use Rattle.table_metadata.specs.Edits.{HasVersionLimit};
+ghost use Rattle.metadata_view.specs.View.{location_of};
 ghost use Rattle.commit_history.specs.Mannered.{IsMannered};
 ghost use Rattle.commit_history.specs.Versions.{number_in};
-ghost use Rattle.table_metadata.specs.Edits.{HasVersionLimit};
-ghost use Rattle.commit_publish.specs.Stages.{Narrow, NoReach, Creating, InState};
 ghost use Rattle.commit_publish.specs.Leaves.{Halts};
+ghost use Rattle.commit_publish.specs.Stages.{Aim, Creating, InState};
 ghost use Rattle.commit_versions.specs.Latest.{IsBaseNumber};
 ghost use Rattle.commit_versions.specs.Opening.{OpenStage, OpenFaultAt};
 ghost use Rattle.commit_versions.specs.declared.types.OpenErr.{OpenErr as TheOpenErr};
-ghost use Rattle.ice_store.specs.Places.{Parts};
-ghost use Rattle.commit_protocol.specs.Metadata.{IsTableOf, IsMetadata};
-ghost use Rattle.commit_protocol.specs.Attempts.{StaysTable, TellsLimit, AttemptLeaves, CommitLeaves};
+ghost use Rattle.commit_protocol.specs.Attempts.{TellsLimit, AttemptLeaves, CommitLeaves};
+ghost use Rattle.commit_protocol.specs.Causes.{CommitRose};
+ghost use Rattle.commit_protocol.specs.Failures.{IsFaultOf, IsUnknownEnd, TellsFault, fault_at, unknown_at};
+ghost use Rattle.commit_protocol.specs.Metadata.{IsMetadata, metadata_rules};
 ghost use Rattle.commit_protocol.specs.Promises.{StopsHavePrefix, StopsHaveFiles, Succeeds};
-ghost use Rattle.commit_protocol.specs.Causes.{CommitRose, AttemptErrRose};
-ghost use Rattle.commit_protocol.specs.Failures.{IsFaultOf, TellsFault, IsUnknownEnd};
-ghost use Rattle.commit_protocol.specs.Verdicts.{IsNobody, IsIdle, IsDecided, IsOneDrawn, CommitVerdict, IsExactCommit};
-ghost use Rattle.ice_store.specs.History.{replay};
-ghost use Rattle.commit_history.specs.Versions.{folder};
-ghost use Rattle.serde_json.specs.Written.{compact_text};
-ghost use Rattle.table_metadata.specs.Spelling.{Spells};
-ghost use Rattle.table_metadata.specs.Edits.{next_version};
-ghost use Rattle.commit_publish.specs.Stages.{Aim};
-ghost use Rattle.commit_versions.specs.Names.{version_text_of, version_name, draft_name};
-ghost use Rattle.ice_store.specs.Calls.{Rose};
-ghost use Rattle.commit_publish.specs.Left.{Notes};
-ghost use Rattle.commit_protocol.specs.Written.{IsWritten, IsUnwritten, CommitLeft, PublishedLeaves, IsNamingOf, commits, commit_count, commit_error_by};
+ghost use Rattle.commit_protocol.specs.Verdicts.{IsNobody, IsIdle, IsCaused, IsExactly};
+ghost use Rattle.commit_protocol.specs.Written.{IsOn, IsWritten, IsUnwritten, CommitLeft, CommitNotes, PublishedLeaves, commits, commit_error_by, version_at};
 
 use crate::change::{Built, Change};
 use crate::errors::{AttemptErr, CommitErr, Committed};
 use crate::opening::{At, Metadata, open_table};
+use commit_publish::{FailedCall, Log, PublishErr, Route, publish_version};
+use commit_versions::{FILE_LIMIT, draft_place, version_place, version_text};
 use ice_store::{Bytes, Ids, Manners, Place, ReadErr, Store, Text, What, Where};
 use std::alloc::{AllocError, Global};
-use table_metadata::{Meta, write_meta};
-use commit_publish::{FailedCall, Log, PublishErr, Route, publish_version};
-use commit_versions::{draft_place, version_place, version_text};
-use commit_versions::FILE_LIMIT;
+use table_metadata::Meta;
 
-// the written form of the next version's metadata
-fn next_bytes(alloc: Global, meta: &Meta, previous: &Text, now: u64) -> Result<Bytes, AllocError>
-    requires utf8 { IsUtf8 previous.now }
-    requires moment { now < 2 ^ 63 }
-    requires limit { HasVersionLimit (view meta.now) }
-    ensures text { IfOk result (λ b. b ≡ compact_text (next_version previous.now now (view meta.now))) }
-    ensures spells { IfOk result (λ b. Spells b (next_version previous.now now (view meta.now))) }
-{
-    let next = meta.next_version(alloc, previous, now)?;
-    write_meta(alloc, &next)
+/// What a commit needs of its base once the base's metadata is given to the change.
+#[derive(Drop)]
+pub(crate) struct Base {
+    version: u64,
+    place: Place,
+    text: Bytes,
+    // the base in a metadata log
+    previous: Text,
 }
 
-fn route_of(alloc: Global, table: &Place, at: At, draft: Place) -> Result<Route, AllocError>
-    requires numbers { IsBaseNumber (number_in table.now) at.place at.version }
+/// A base and its metadata, apart.
+#[derive(Drop)]
+pub(crate) struct Parted {
+    base: Base,
+    meta: Meta,
+}
+
+fn take_apart(alloc: Global, at: At) -> Result<Parted, AllocError>
+    ensures base { IfOk result (λ p. IsOn p.base at) }
+    ensures utf8 { IfOk result (λ p. IsUtf8 p.base.previous) }
+    ensures meta { IfOk result (λ p. p.meta ≡ at.meta) }
+{
+    let previous = version_text(alloc, at.meta.location(), at.version)?;
+    let base = Base {
+        version: at.version,
+        place: at.place,
+        text: at.text,
+        previous,
+    };
+    Ok(Parted {
+        base,
+        meta: at.meta,
+    })
+}
+
+fn route_of(alloc: Global, table: &Place, base: Base, draft: Place) -> Result<Route, AllocError>
+    requires numbers { IsBaseNumber (number_in table.now) base.place base.version }
     requires plain { number_in table.now draft ≡ 0 }
     ensures table { IfOk result (λ r. r.table ≡ table.now) }
-    ensures base { IfOk result (λ r. r.base ≡ at.place) }
-    ensures text { IfOk result (λ r. r.text ≡ at.text) }
+    ensures base { IfOk result (λ r. r.base ≡ base.place) }
+    ensures text { IfOk result (λ r. r.text ≡ base.text) }
     ensures draft { IfOk result (λ r. r.draft ≡ draft) }
-    ensures target { IfOk result (λ r. r.target ≡ table.now ++ folder ∷ version_name (at.version + 1) ∷ []) }
-    ensures aim { IfOk result (λ r. Aim (number_in table.now) r.draft r.base r.target) }
+    ensures target { IfOk result (λ r. r.target ≡ version_at table.now (base.version + 1)) }
+    ensures aim { IfOk result (λ r. Aim (number_in table.now) r) }
 {
-    let target = version_place(alloc, table, at.version + 1)?;
+    let target = version_place(alloc, table, base.version + 1)?;
     let table = table.copy()?;
     Ok(Route {
         table,
-        base: at.place,
-        text: at.text,
+        base: base.place,
+        text: base.text,
         draft,
         target,
     })
@@ -83,21 +97,20 @@ pub(crate) struct Written {
 fn draw_up(
     alloc: Global,
     table: &Place,
-    at: At,
-    meta: &Meta,
+    base: Base,
+    meta: Meta,
     now: u64,
     id: u128,
 ) -> Result<Written, AttemptErr>
-    requires numbers { IsBaseNumber (number_in table.now) at.place at.version }
-    requires metadata { IsMetadata table.now at.text (view at.meta) }
-    requires stays { StaysTable (view at.meta) (view meta.now) }
-    requires limit { HasVersionLimit (view at.meta) }
+    requires numbers { IsBaseNumber (number_in table.now) base.place base.version }
+    requires utf8 { IsUtf8 base.previous }
+    requires here { place_in (location_of (view meta)) ≡ Ok table.now }
+    requires limit { HasVersionLimit (view meta) }
     requires moment { now < 2 ^ 63 }
-    ensures ok { IfOk result (λ w. IsWritten table.now at (view meta.now) now id w) }
-    ensures err { IfErr result (λ e. IsUnwritten table.now at (view meta.now) now id e) }
+    ensures ok { IfOk result (λ w. IsWritten table.now base (view meta) now id w) }
+    ensures err { IfErr result (λ e. IsUnwritten table.now base (view meta) now id e) }
 {
-    let previous = version_text(alloc, at.meta.location(), at.version)?;
-    let bytes = next_bytes(alloc, meta, &previous, now)?;
+    let bytes = meta.into_next_version_bytes(alloc, &base.previous, now)?;
     let draft = draft_place(alloc, table, id)?;
     if bytes.len() > FILE_LIMIT {
         return Err(AttemptErr::Read(ReadErr::Unsupported {
@@ -105,7 +118,7 @@ fn draw_up(
             what: What::FileBytes,
         }));
     }
-    let route = route_of(alloc, table, at, draft)?;
+    let route = route_of(alloc, table, base, draft)?;
     Ok(Written { route, bytes })
 }
 
@@ -117,9 +130,9 @@ fn commit_error(e: PublishErr, route: Route, version: u64) -> CommitErr
         PublishErr::NameTaken => CommitErr::Attempt(AttemptErr::NameTaken { place: route.draft }),
         PublishErr::Contended => CommitErr::Contended { version },
         PublishErr::Unknown => CommitErr::CommitUnknown { version },
-        PublishErr::Fault(FailedCall::OnFile) => CommitErr::Attempt(AttemptErr::Read(ReadErr::StoreFault {
-            place: route.draft,
-        })),
+        PublishErr::Fault(FailedCall::OnFile) => CommitErr::Attempt(AttemptErr::Read(
+            ReadErr::StoreFault { place: route.draft },
+        )),
         PublishErr::Fault(FailedCall::OnNames) => CommitErr::Attempt(AttemptErr::Read(
             ReadErr::StoreFault { place: route.table },
         )),
@@ -133,32 +146,32 @@ fn publish_built<M: Manners, S: Store<M>, I: Ids>(
     ids: &mut I,
     now: u64,
     table: &Place,
-    at: At,
+    base: Base,
     meta: Meta,
     log: &mut Log,
 ) -> Result<Committed, CommitErr>
-    requires mannered { IsMannered (number_in table.now) (Narrow IsTableOf table.now) NoReach (M.allows (S.manners store.old)) }
-    requires numbers { IsBaseNumber (number_in table.now) at.place at.version }
-    requires metadata { IsMetadata table.now at.text (view at.meta) }
-    requires stays { StaysTable (view at.meta) (view meta) }
-    requires limit { HasVersionLimit (view at.meta) }
+    requires mannered { IsMannered (metadata_rules table.now (M.allows (S.manners store.old))) }
+    requires numbers { IsBaseNumber (number_in table.now) base.place base.version }
+    requires utf8 { IsUtf8 base.previous }
+    requires here { place_in (location_of (view meta)) ≡ Ok table.now }
+    requires limit { HasVersionLimit (view meta) }
     requires moment { now < 2 ^ 63 }
-    requires start { WhereTold (S.past store.old) (InState (OpenStage (number_in table.now) at.place)) }
-    ensures told { Since (S.past store.old) (S.past store.new) (PublishedLeaves (number_in table.now) (Narrow IsTableOf table.now) NoReach (M.allows (S.manners store.old)) (Gives (I.given ids.old) (I.given ids.new)) table.now now at (view meta) result) }
+    requires start { WhereTold (S.past store.old) (InState (OpenStage (number_in table.now) base.place)) }
+    ensures told { Since (S.past store.old) (S.past store.new) (PublishedLeaves table.now (M.allows (S.manners store.old)) (Gives (I.given ids.old) (I.given ids.new)) now base (view meta) result) }
     ensures manners { S.manners store.new ≡ S.manners store.old }
     ensures cause { CommitRose result (S.faults store.old) (S.faults store.new) }
     ensures later { S.faults store.old ≤ S.faults store.new }
     ensures halted { Halts result (S.halted store.old) (S.halted store.new) (S.past store.new) }
     ensures committed { log.new.committed.items ≡ commits result log.old.committed.items }
     ensures left { CommitLeft (Gives (I.given ids.old) (I.given ids.new)) table.now result log.old.left.items log.new.left.items }
-    ensures noted { Since (S.past store.old) (S.past store.new) (Notes (Rose (S.faults store.old) (S.faults store.new)) (IsNamingOf (Gives (I.given ids.old) (I.given ids.new)) table.now) (commit_count result) [] log.old.left.items log.new.left.items) }
+    ensures noted { Since (S.past store.old) (S.past store.new) (CommitNotes (S.faults store.old) (S.faults store.new) (Gives (I.given ids.old) (I.given ids.new)) table.now result log.old log.new) }
     ensures unopened { (e : TheOpenErr) → result ≡ Err (CommitErr.Open e) → ⊥ }
-    ensures fault { (place : Parts) → result ≡ Err (CommitErr.Attempt (AttemptErr.Read (ReadErr.StoreFault place))) → IsFaultOf (Gives (I.given ids.old) (I.given ids.new)) table.now place log.old.left.items log.new.left.items }
-    ensures renamed { (version : ℕ) → result ≡ Err (CommitErr.CommitUnknown version) → Since (S.past store.old) (S.past store.new) (IsUnknownEnd (Gives (I.given ids.old) (I.given ids.new)) table.now version log.old.left.items log.new.left.items) }
+    ensures fault { (place : Parts) → result ≡ fault_at place → IsFaultOf (Gives (I.given ids.old) (I.given ids.new)) table.now place log.old.left.items log.new.left.items }
+    ensures renamed { (v : ℕ) → result ≡ unknown_at v → Since (S.past store.old) (S.past store.new) (IsUnknownEnd (Gives (I.given ids.old) (I.given ids.new)) table.now v log.old.left.items log.new.left.items) }
 {
     let id = ids.next();
-    let version = at.version + 1;
-    let written = match draw_up(alloc, table, at, &meta, now, id) {
+    let version = base.version + 1;
+    let written = match draw_up(alloc, table, base, meta, now, id) {
         Ok(written) => written,
         Err(e) => return Err(CommitErr::Attempt(e)),
     };
@@ -197,32 +210,36 @@ fn attempt_on<M: Manners, S: Store<M>, I: Ids, X: Change<M>>(
     change: &mut X,
     log: &mut Log,
 ) -> Result<Committed, CommitErr>
-    requires mannered { IsMannered (number_in table.now) (Narrow IsTableOf table.now) NoReach (M.allows (S.manners store.old)) }
+    requires mannered { IsMannered (metadata_rules table.now (M.allows (S.manners store.old))) }
     requires numbers { IsBaseNumber (number_in table.now) at.place at.version }
     requires metadata { IsMetadata table.now at.text (view at.meta) }
     requires moment { now < 2 ^ 63 }
     requires start { WhereTold (S.past store.old) (InState (OpenStage (number_in table.now) at.place)) }
-    ensures told { Since (S.past store.old) (S.past store.new) (AttemptLeaves (number_in table.now) (Narrow IsTableOf table.now) NoReach (M.allows (S.manners store.old)) (X.successor change.old) (X.same change.old) (X.refuses change.old) (X.seen change.old change.new) (Gives (I.given ids.old) (I.given ids.new)) table.now now at result) }
+    ensures told { Since (S.past store.old) (S.past store.new) (AttemptLeaves table.now (M.allows (S.manners store.old)) (X.meanings change.old change.new) (Gives (I.given ids.old) (I.given ids.new)) now at result) }
     ensures manners { S.manners store.new ≡ S.manners store.old }
     ensures cause { CommitRose result (S.faults store.old) (S.faults store.new) }
     ensures later { S.faults store.old ≤ S.faults store.new }
     ensures halted { Halts result (S.halted store.old) (S.halted store.new) (S.past store.new) }
     ensures committed { log.new.committed.items ≡ commits result log.old.committed.items }
     ensures left { CommitLeft (Gives (I.given ids.old) (I.given ids.new)) table.now result log.old.left.items log.new.left.items }
-    ensures noted { Since (S.past store.old) (S.past store.new) (Notes (Rose (S.faults store.old) (S.faults store.new)) (IsNamingOf (Gives (I.given ids.old) (I.given ids.new)) table.now) (commit_count result) [] log.old.left.items log.new.left.items) }
+    ensures noted { Since (S.past store.old) (S.past store.new) (CommitNotes (S.faults store.old) (S.faults store.new) (Gives (I.given ids.old) (I.given ids.new)) table.now result log.old log.new) }
     ensures unopened { (e : TheOpenErr) → result ≡ Err (CommitErr.Open e) → ⊥ }
-    ensures fault { (place : Parts) → result ≡ Err (CommitErr.Attempt (AttemptErr.Read (ReadErr.StoreFault place))) → TellsFault (X.refuses change.old) (Gives (I.given ids.old) (I.given ids.new)) table.now place log.old.left.items log.new.left.items }
-    ensures renamed { (version : ℕ) → result ≡ Err (CommitErr.CommitUnknown version) → Since (S.past store.old) (S.past store.new) (IsUnknownEnd (Gives (I.given ids.old) (I.given ids.new)) table.now version log.old.left.items log.new.left.items) }
+    ensures fault { (place : Parts) → result ≡ fault_at place → TellsFault (X.meanings change.old change.new) (Gives (I.given ids.old) (I.given ids.new)) table.now place log.old.left.items log.new.left.items }
+    ensures renamed { (v : ℕ) → result ≡ unknown_at v → Since (S.past store.old) (S.past store.new) (IsUnknownEnd (Gives (I.given ids.old) (I.given ids.new)) table.now v log.old.left.items log.new.left.items) }
 {
     if !at.meta.has_version_limit() {
         return Err(unreadable_limit(alloc, at.place));
     }
-    match change.attempt::<S, I>(alloc, store, ids, table, &at, now, log) {
+    let Ok(parts) = take_apart(alloc, at) else {
+        return Err(CommitErr::Attempt(AttemptErr::Read(ReadErr::Memory)));
+    };
+    let base = parts.base;
+    match change.attempt::<S, I>(alloc, store, ids, table, &base.place, parts.meta, now, log) {
         Ok(Built::Next(meta)) => publish_built::<M, S, I>(
-            alloc, store, ids, now, table, at, meta, log,
+            alloc, store, ids, now, table, base, meta, log,
         ),
         Ok(Built::Same) => Ok(Committed::Same {
-            version: at.version,
+            version: base.version,
         }),
         Err(e) => Err(CommitErr::Attempt(e)),
     }
@@ -246,27 +263,26 @@ pub fn commit<M: Manners, S: Store<M>, I: Ids, X: Change<M>>(
     change: &mut X,
     log: &mut Log,
 ) -> Result<Committed, CommitErr>
-    requires mannered { IsMannered (number_in table.now) (Narrow IsTableOf table.now) NoReach (M.allows (S.manners store.old)) }
+    requires mannered { IsMannered (metadata_rules table.now (M.allows (S.manners store.old))) }
     requires moment { now < 2 ^ 63 }
     requires start { WhereTold (S.past store.old) (InState (λ d. Creating d.pending)) }
-    ensures told { Since (S.past store.old) (S.past store.new) (CommitLeaves (number_in table.now) (Narrow IsTableOf table.now) NoReach (M.allows (S.manners store.old)) (X.successor change.old) (X.same change.old) (X.refuses change.old) (X.seen change.old change.new) (Gives (I.given ids.old) (I.given ids.new)) table.now now result) }
+    ensures told { Since (S.past store.old) (S.past store.new) (CommitLeaves table.now (M.allows (S.manners store.old)) (X.meanings change.old change.new) (Gives (I.given ids.old) (I.given ids.new)) now result) }
     ensures manners { S.manners store.new ≡ S.manners store.old }
     ensures cause { CommitRose result (S.faults store.old) (S.faults store.new) }
     ensures later { S.faults store.old ≤ S.faults store.new }
     ensures halted { Halts result (S.halted store.old) (S.halted store.new) (S.past store.new) }
     ensures committed { log.new.committed.items ≡ commits result log.old.committed.items }
     ensures left { CommitLeft (Gives (I.given ids.old) (I.given ids.new)) table.now result log.old.left.items log.new.left.items }
-    ensures noted { Since (S.past store.old) (S.past store.new) (Notes (Rose (S.faults store.old) (S.faults store.new)) (IsNamingOf (Gives (I.given ids.old) (I.given ids.new)) table.now) (commit_count result) [] log.old.left.items log.new.left.items) }
+    ensures noted { Since (S.past store.old) (S.past store.new) (CommitNotes (S.faults store.old) (S.faults store.new) (Gives (I.given ids.old) (I.given ids.new)) table.now result log.old log.new) }
     ensures opening { (e : TheOpenErr) → result ≡ Err (CommitErr.Open e) → OpenFaultAt table.now e }
-    ensures fault { (place : Parts) → result ≡ Err (CommitErr.Attempt (AttemptErr.Read (ReadErr.StoreFault place))) → TellsFault (X.refuses change.old) (Gives (I.given ids.old) (I.given ids.new)) table.now place log.old.left.items log.new.left.items }
-    ensures renamed { (version : ℕ) → result ≡ Err (CommitErr.CommitUnknown version) → Since (S.past store.old) (S.past store.new) (IsUnknownEnd (Gives (I.given ids.old) (I.given ids.new)) table.now version log.old.left.items log.new.left.items) }
-    ensures alone { IsNobody (M.allows (S.manners store.old)) → Since (S.past store.old) (S.past store.new) (λ old new. CommitVerdict (X.successor change.old) (X.same change.old) (X.refuses change.old) (Gives (I.given ids.old) (I.given ids.new)) table.now now (replay old).files result) }
-    ensures exactly { IsNobody (M.allows (S.manners store.old)) → IsDecided (X.successor change.old) (X.same change.old) (X.refuses change.old) → IsOneDrawn (Gives (I.given ids.old) (I.given ids.new))
-        → Since (S.past store.old) (S.past store.new) (λ old new. IsExactCommit (X.successor change.old) (X.same change.old) (X.refuses change.old) (Gives (I.given ids.old) (I.given ids.new)) table.now now result (replay old).files) }
+    ensures fault { (place : Parts) → result ≡ fault_at place → TellsFault (X.meanings change.old change.new) (Gives (I.given ids.old) (I.given ids.new)) table.now place log.old.left.items log.new.left.items }
+    ensures renamed { (v : ℕ) → result ≡ unknown_at v → Since (S.past store.old) (S.past store.new) (IsUnknownEnd (Gives (I.given ids.old) (I.given ids.new)) table.now v log.old.left.items log.new.left.items) }
+    ensures alone { IsNobody (M.allows (S.manners store.old)) → Since (S.past store.old) (S.past store.new) (IsCaused (X.meanings change.old change.new) (Gives (I.given ids.old) (I.given ids.new)) table.now now result) }
+    ensures exactly { Since (S.past store.old) (S.past store.new) (IsExactly (M.allows (S.manners store.old)) (X.meanings change.old change.new) (Gives (I.given ids.old) (I.given ids.new)) table.now now result) }
     ensures idle { IsNobody (M.allows (S.manners store.old)) → Since (S.past store.old) (S.past store.new) (IsIdle result) }
     ensures prefix { Since (S.past store.old) (S.past store.new) (StopsHavePrefix table.now) }
     ensures files { Since (S.past store.old) (S.past store.new) (StopsHaveFiles table.now) }
-    ensures successors { IsNobody (M.allows (S.manners store.old)) → Since (S.past store.old) (S.past store.new) (Succeeds (X.successor change.old) table.now now result) }
+    ensures successors { IsNobody (M.allows (S.manners store.old)) → Since (S.past store.old) (S.past store.new) (Succeeds (X.meanings change.old change.new).successor table.now now result) }
 {
     match open_table::<M, S>(alloc, store, table) {
         Ok(at) => attempt_on::<M, S, I, X>(alloc, store, ids, now, table, at, change, log),

@@ -1,8 +1,8 @@
 //! Why a commit was refused, failed, or may not have been published.
+use commit_versions::OpenErr;
 use ice_store::{Place, ReadErr, Text};
 use std::alloc::AllocError;
 use thiserror::Error;
-use commit_versions::OpenErr;
 
 /// What stands against a file that was to be replaced.
 #[derive(Debug, Drop)]

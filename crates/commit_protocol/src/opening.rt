@@ -6,27 +6,29 @@ ghost use Rattle.serde_json.specs.View.{view};
 ghost use Rattle.commit_history.specs.Mannered.{IsMannered};
 ghost use Rattle.commit_history.specs.Versions.{number_in};
 ghost use Rattle.table_metadata.specs.Spelling.{Spells, HasFault};
-ghost use Rattle.commit_publish.specs.Stages.{Narrow, NoReach, Creating, InState};
+ghost use Rattle.commit_publish.specs.Stages.{Creating, InState};
 ghost use Rattle.commit_publish.specs.Leaves.{Halts};
 ghost use Rattle.commit_versions.specs.Latest.{IsBaseNumber};
 ghost use Rattle.commit_versions.specs.Opening.{OpenFaultAt};
-ghost use Rattle.commit_protocol.specs.Metadata.{IsTableOf, IsMetadata, ReadsTable, SaysElsewhere, TableLeaves, unsupported};
+ghost use Rattle.commit_protocol.specs.Metadata.{IsMetadata, ReadsTable, SaysElsewhere, TableLeaves, unsupported, metadata_content, metadata_local, metadata_rules};
 ghost use Rattle.commit_protocol.specs.Causes.{TableRose};
 ghost use Rattle.commit_protocol.specs.Verdicts.{IsNobody, OpenVerdict, IsExactOpening};
 ghost use Rattle.ice_store.specs.History.{replay};
 
+use commit_history::TableReading;
+use commit_versions::{OpenErr, Opened, open_version};
 use ice_store::{Bytes, Manners, Place, PlaceErr, ReadErr, Store, Text, What, Where};
 use std::alloc::Global;
 use table_metadata::{Meta, MetaCause, MetaErr, read_meta};
-use commit_publish::Format;
-use commit_versions::{OpenErr, Opened, open_version};
 
 /// Table metadata as JSON: the bytes of a version file.
 #[derive(Debug, Clone, Copy)]
 pub struct Metadata;
 
-impl Format for Metadata {
-    ghost reads = { IsTableOf };
+impl TableReading for Metadata {
+    ghost content = { metadata_content };
+
+    ghost localized = { metadata_local };
 }
 
 /// A table as it was opened, at its last version.
@@ -121,9 +123,9 @@ pub fn open_table<M: Manners, S: Store<M>>(
     store: &mut S,
     table: &Place,
 ) -> Result<At, OpenErr>
-    requires mannered { IsMannered (number_in table.now) (Narrow IsTableOf table.now) NoReach (M.allows (S.manners store.old)) }
+    requires mannered { IsMannered (metadata_rules table.now (M.allows (S.manners store.old))) }
     requires start { WhereTold (S.past store.old) (InState (λ d. Creating d.pending)) }
-    ensures told { Since (S.past store.old) (S.past store.new) (TableLeaves (number_in table.now) (Narrow IsTableOf table.now) NoReach (M.allows (S.manners store.old)) table.now result) }
+    ensures told { Since (S.past store.old) (S.past store.new) (TableLeaves table.now (M.allows (S.manners store.old)) result) }
     ensures numbers { IfOk result (λ at. IsBaseNumber (number_in table.now) at.place at.version) }
     ensures metadata { IfOk result (λ at. IsMetadata table.now at.text (view at.meta)) }
     ensures manners { S.manners store.new ≡ S.manners store.old }

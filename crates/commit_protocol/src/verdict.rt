@@ -15,6 +15,6 @@ pub fn one_opening(table: &Place)
 /// Two told verdicts of one commit are one, where the meanings of its change exclude one another and the source of
 /// identifiers tells what it gives.
 pub fn one_commit<M: Manners, X: Change<M>>(table: &Place, change: &X)
-    ensures { (now : ℕ) (before : Option (List ℕ)) (values : List ℕ) → IsDecided (X.successor change.now) (X.same change.now) (X.refuses change.now)
-        → IsOneCommit table.now now (X.successor change.now) (X.same change.now) (X.refuses change.now) (Gives before (Some values)) }
+    ensures { (now : ℕ) (before : Option (List ℕ)) (values : List ℕ) → IsDecided (X.meanings change.now change.now)
+        → IsOneCommit table.now now (X.meanings change.now change.now) (Gives before (Some values)) }
 {}

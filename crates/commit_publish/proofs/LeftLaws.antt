@@ -12,12 +12,13 @@ use Rattle.ice_store.specs.declared.history.Step.{Step}
 use Rattle.ice_store.specs.declared.history.Step.TheVariants.{Create, Append, Rename, Remove, SyncNames}
 use Rattle.ice_store.specs.declared.store.StoreErr.{StoreErr}
 use Rattle.ice_store.specs.declared.store.StoreErr.TheVariants.{Failed, Memory}
-use Rattle.commit_publish.specs.Stages.{Exactly, Begun, BegunFill, Anything, Then, draft_plan, fill_plan}
+use Rattle.commit_publish.specs.Stages.{Exactly, Begun, BegunFill, Anything, Then, draft_plan, fill_plan, move_plan}
 use Rattle.commit_publish.specs.Leaves.{Unmade, Unmoved, Undropped, RoseBy}
 use Rattle.ice_store.specs.Calls.{Rose}
 use Rattle.commit_publish.specs.Left.{without_place, places_after, count_after, made_by, IsLeft, IsMore, IsNaming, Leaves, Notes, Takes, TellsRename, draft_if}
 use Rattle.commit_publish.specs.Logs.{is_failed, left_by_move, left_by_drop, unknown_from}
 use Rattle.commit_publish.specs.declared.publish.PublishErr.TheVariants.{Unknown}
+use Rattle.commit_publish.specs.declared.steps.Route.{Route}
 use Rattle.commit_publish.specs.declared.steps.FailedCall.{FailedCall}
 use Rattle.commit_publish.specs.declared.steps.FailedCall.TheVariants.{OnFile, OnNames}
 use Rattle.commit_publish.proofs.CallLaws.{Work, RR}
@@ -54,10 +55,10 @@ filled_keeps draft bytes places steps fill = elim fill.begun [
   | inr all ↦ begun_keeps (fill_plan draft bytes) steps places ((λ l. refl), refl, ((λ l. refl), refl, ((λ l. refl), refl, tt))) all
 ]
 
-pub begun_rename : (draft target : Parts) (call : FailedCall) (cause : StoreErr) (l : List Step) → Unmoved draft target call cause l → Begun (Rename draft target ∷ SyncNames ∷ []) l
-begun_rename draft target OnFile Failed l b = record { rest = b.rest ++ SyncNames ∷ []; is = ap (λ (z : List Step). z ++ SyncNames ∷ []) b.is ∙ append_assoc l b.rest (SyncNames ∷ []) }
-begun_rename draft target OnFile Memory l e = record { rest = Rename draft target ∷ SyncNames ∷ []; is = ap (λ (z : List Step). z ++ Rename draft target ∷ SyncNames ∷ []) (sym e) }
-begun_rename draft target OnNames cause l t = record { rest = t.then.rest; is = ap (λ (z : List Step). Rename draft target ∷ z) t.then.is ∙ ap (λ (z : List Step). z ++ t.then.rest) (sym t.is) }
+pub begun_rename : (route : Route) (call : FailedCall) (cause : StoreErr) (l : List Step) → Unmoved route call cause l → Begun (move_plan route) l
+begun_rename route OnFile Failed l b = record { rest = b.rest ++ SyncNames ∷ []; is = ap (λ (z : List Step). z ++ SyncNames ∷ []) b.is ∙ append_assoc l b.rest (SyncNames ∷ []) }
+begun_rename route OnFile Memory l e = record { rest = Rename route.draft route.target ∷ SyncNames ∷ []; is = ap (λ (z : List Step). z ++ Rename route.draft route.target ∷ SyncNames ∷ []) (sym e) }
+begun_rename route OnNames cause l t = record { rest = t.then.rest; is = ap (λ (z : List Step). Rename route.draft route.target ∷ z) t.then.is ∙ ap (λ (z : List Step). z ++ t.then.rest) (sym t.is) }
 
 -- what the rename and the sync behind it leave where one of them did not do its work, and the removal and its sync
 abbrev pub moved_places : FailedCall → StoreErr → Parts → Parts → List Parts
@@ -91,9 +92,9 @@ pub more_later : (Tried : Step → Type 0) (a b c : ℕ) (more : List Parts) →
 more_later Tried a b c more le (inl none) = inl none
 more_later Tried a b c more le (inr one) = inr (rose_on a b c le one.0, one.1)
 
-module _ (draft target : Parts) (bytes : List ℕ) (before now : ℕ) where
+module _ (route : Route) (bytes : List ℕ) (before now : ℕ) where
   abbrev pub Left : ℕ → List Parts → List Step → List Parts → Type 0
-  Left = IsLeft (Rose before now) (IsNaming draft target)
+  Left = IsLeft (Rose before now) (IsNaming route.draft route.target)
 
   pub exact : (count : ℕ) (places : List Parts) (steps : List Step) (left : List Parts) → left ≡ made_by count places steps → Left count places steps left
   exact count places steps left is = record { more = []; is = is ∙ sym (append-nil (made_by count places steps)); cause = inl refl }
@@ -101,52 +102,52 @@ module _ (draft target : Parts) (bytes : List ℕ) (before now : ℕ) where
   pub none_left : (steps : List Step) → Exactly [] steps → Left 0 [] steps []
   none_left steps e = exact 0 [] steps [] (ap (made_by 0 []) (sym e))
 
-  pub unmade_left : (cause : StoreErr) → RoseBy cause before now → (steps : List Step) → Unmade draft cause steps → Left 0 [] steps (draft_if (is_failed cause) draft)
-  unmade_left Failed rose steps begun = begun_one (Create draft) (λ (l : List Step). Left 0 [] l (draft ∷ []))
-      (record { more = draft ∷ []; is = refl; cause = inr (rose, (Create draft, inl refl, refl)) }) (exact 0 [] (Create draft ∷ []) (draft ∷ []) refl) steps begun
+  pub unmade_left : (cause : StoreErr) → RoseBy cause before now → (steps : List Step) → Unmade route.draft cause steps → Left 0 [] steps (draft_if (is_failed cause) route.draft)
+  unmade_left Failed rose steps begun = begun_one (Create route.draft) (λ (l : List Step). Left 0 [] l (route.draft ∷ []))
+      (record { more = route.draft ∷ []; is = refl; cause = inr (rose, (Create route.draft, inl refl, refl)) }) (exact 0 [] (Create route.draft ∷ []) (route.draft ∷ []) refl) steps begun
   unmade_left Memory rose steps e = none_left steps e
 
-  pub unfilled_left : (steps : List Step) → Then (Create draft ∷ []) (BegunFill draft bytes) steps → Left 0 [] steps (draft ∷ [])
-  unfilled_left steps t = exact 0 [] steps (draft ∷ []) (sym (ap (made_by 0 []) t.is ∙ filled_keeps draft bytes (draft ∷ []) t.rest t.then))
+  pub unfilled_left : (steps : List Step) → Then (Create route.draft ∷ []) (BegunFill route.draft bytes) steps → Left 0 [] steps (route.draft ∷ [])
+  unfilled_left steps t = exact 0 [] steps (route.draft ∷ []) (sym (ap (made_by 0 []) t.is ∙ filled_keeps route.draft bytes (route.draft ∷ []) t.rest t.then))
 
-  pub published_left : (steps : List Step) → Exactly (Rename draft target ∷ SyncNames ∷ []) steps → Left 1 (draft ∷ []) steps []
-  published_left steps e = exact 1 (draft ∷ []) steps [] (sym (ap (made_by 1 (draft ∷ [])) e ∙ without_only draft))
+  pub published_left : (steps : List Step) → Exactly (Rename route.draft route.target ∷ SyncNames ∷ []) steps → Left 1 (route.draft ∷ []) steps []
+  published_left steps e = exact 1 (route.draft ∷ []) steps [] (sym (ap (made_by 1 (route.draft ∷ [])) e ∙ without_only route.draft))
 
-  pub unmoved_left : (call : FailedCall) (cause : StoreErr) → RoseBy cause before now → (steps : List Step) → Unmoved draft target call cause steps → Left 0 (draft ∷ []) steps (moved_places call cause draft target)
+  pub unmoved_left : (call : FailedCall) (cause : StoreErr) → RoseBy cause before now → (steps : List Step) → Unmoved route call cause steps → Left 0 (route.draft ∷ []) steps (moved_places call cause route.draft route.target)
   unmoved_left call cause rose steps unmoved =
-      let kept : draft ∷ [] ≡ made_by 0 (draft ∷ []) steps = sym (begun_keeps (Rename draft target ∷ SyncNames ∷ []) steps (draft ∷ []) ((λ l. refl), refl, ((λ l. refl), refl, tt)) (begun_rename draft target call cause steps unmoved)) in
+      let kept : route.draft ∷ [] ≡ made_by 0 (route.draft ∷ []) steps = sym (begun_keeps (Rename route.draft route.target ∷ SyncNames ∷ []) steps (route.draft ∷ []) ((λ l. refl), refl, ((λ l. refl), refl, tt)) (begun_rename route call cause steps unmoved)) in
       by_call call cause rose kept
     where
-      by_call : (call : FailedCall) (cause : StoreErr) → RoseBy cause before now → draft ∷ [] ≡ made_by 0 (draft ∷ []) steps → Left 0 (draft ∷ []) steps (moved_places call cause draft target)
-      by_call OnFile Failed rose kept = record { more = target ∷ []; is = ap (λ (l : List Parts). l ++ target ∷ []) kept; cause = inr (rose, (Rename draft target, inr (inl refl), refl)) }
-      by_call OnFile Memory rose kept = exact 0 (draft ∷ []) steps (draft ∷ []) kept
-      by_call OnNames cause rose kept = exact 0 (draft ∷ []) steps (draft ∷ []) kept
+      by_call : (call : FailedCall) (cause : StoreErr) → RoseBy cause before now → route.draft ∷ [] ≡ made_by 0 (route.draft ∷ []) steps → Left 0 (route.draft ∷ []) steps (moved_places call cause route.draft route.target)
+      by_call OnFile Failed rose kept = record { more = route.target ∷ []; is = ap (λ (l : List Parts). l ++ route.target ∷ []) kept; cause = inr (rose, (Rename route.draft route.target, inr (inl refl), refl)) }
+      by_call OnFile Memory rose kept = exact 0 (route.draft ∷ []) steps (route.draft ∷ []) kept
+      by_call OnNames cause rose kept = exact 0 (route.draft ∷ []) steps (route.draft ∷ []) kept
 
-  pub dropped_left : (steps : List Step) → Exactly (Remove draft ∷ SyncNames ∷ []) steps → Left 0 (draft ∷ []) steps []
-  dropped_left steps e = exact 0 (draft ∷ []) steps [] (sym (ap (made_by 0 (draft ∷ [])) e ∙ without_only draft))
+  pub dropped_left : (steps : List Step) → Exactly (Remove route.draft ∷ SyncNames ∷ []) steps → Left 0 (route.draft ∷ []) steps []
+  dropped_left steps e = exact 0 (route.draft ∷ []) steps [] (sym (ap (made_by 0 (route.draft ∷ [])) e ∙ without_only route.draft))
 
-  pub undropped_left : (call : FailedCall) (cause : StoreErr) → RoseBy cause before now → (steps : List Step) → Undropped draft call cause steps → Left 0 (draft ∷ []) steps (dropped_places call draft)
-  undropped_left OnFile Failed rose steps begun = begun_one (Remove draft) (λ (l : List Step). Left 0 (draft ∷ []) l (draft ∷ []))
-      (exact 0 (draft ∷ []) [] (draft ∷ []) refl)
-      (record { more = draft ∷ []; is = ap (λ (l : List Parts). l ++ draft ∷ []) (sym (without_only draft)); cause = inr (rose, (Remove draft, inr (inr refl), refl)) }) steps begun
-  undropped_left OnFile Memory rose steps e = exact 0 (draft ∷ []) steps (draft ∷ []) (sym (ap (made_by 0 (draft ∷ [])) e))
-  undropped_left OnNames cause rose steps t = exact 0 (draft ∷ []) steps []
-      (sym (ap (made_by 0 (draft ∷ [])) t.is ∙ begun_keeps (SyncNames ∷ []) t.rest (without_place (draft ∷ []) draft) ((λ l. refl), refl, tt) t.then ∙ without_only draft))
+  pub undropped_left : (call : FailedCall) (cause : StoreErr) → RoseBy cause before now → (steps : List Step) → Undropped route call cause steps → Left 0 (route.draft ∷ []) steps (dropped_places call route.draft)
+  undropped_left OnFile Failed rose steps begun = begun_one (Remove route.draft) (λ (l : List Step). Left 0 (route.draft ∷ []) l (route.draft ∷ []))
+      (exact 0 (route.draft ∷ []) [] (route.draft ∷ []) refl)
+      (record { more = route.draft ∷ []; is = ap (λ (l : List Parts). l ++ route.draft ∷ []) (sym (without_only route.draft)); cause = inr (rose, (Remove route.draft, inr (inr refl), refl)) }) steps begun
+  undropped_left OnFile Memory rose steps e = exact 0 (route.draft ∷ []) steps (route.draft ∷ []) (sym (ap (made_by 0 (route.draft ∷ [])) e))
+  undropped_left OnNames cause rose steps t = exact 0 (route.draft ∷ []) steps []
+      (sym (ap (made_by 0 (route.draft ∷ [])) t.is ∙ begun_keeps (SyncNames ∷ []) t.rest (without_place (route.draft ∷ []) route.draft) ((λ l. refl), refl, tt) t.then ∙ without_only route.draft))
 
 -- From runs.
 
 module _ (x : Work) (before now : ℕ) where
-  pub leaves_by : (M : List Step → Type 0) (K : Past → Type 0) (count : ℕ) (places left : List Parts) → ((steps : List Step) → M steps → Left x.draft x.target x.bytes before now count places steps left) → (old new : Past) → RR x M K old new
-      → Leaves (Rose before now) (IsNaming x.draft x.target) count places left old new
+  pub leaves_by : (M : List Step → Type 0) (K : Past → Type 0) (count : ℕ) (places left : List Parts) → ((steps : List Step) → M steps → Left x.route x.bytes before now count places steps left) → (old new : Past) → RR x M K old new
+      → Leaves (Rose before now) (IsNaming x.route.draft x.route.target) count places left old new
   leaves_by M K count places left by old new run = record { events = run.events; is = run.is; places = by _ run.made }
 
-  pub notes_by : (M : List Step → Type 0) (K : Past → Type 0) (count : ℕ) (places had has left : List Parts) → has ≡ had ++ left → ((steps : List Step) → M steps → Left x.draft x.target x.bytes before now count places steps left) → (old new : Past) → RR x M K old new
-      → Notes (Rose before now) (IsNaming x.draft x.target) count places had has old new
+  pub notes_by : (M : List Step → Type 0) (K : Past → Type 0) (count : ℕ) (places had has left : List Parts) → has ≡ had ++ left → ((steps : List Step) → M steps → Left x.route x.bytes before now count places steps left) → (old new : Past) → RR x M K old new
+      → Notes (Rose before now) (IsNaming x.route.draft x.route.target) count places had has old new
   notes_by M K count places had has left is by old new run = record { left = left; noted = is; leaves = leaves_by M K count places left by old new run }
 
 -- A rename whose end is unknown.
 
-pub tells_rename : (x : Work) (call : FailedCall) (cause : StoreErr) (had has : List Parts) (old new : Past) → unknown_from cause ≡ Unknown → has ≡ left_by_move call cause x.draft x.target had → RR x (Unmoved x.draft x.target call cause) Anything old new → TellsRename x.draft x.target had has old new
+pub tells_rename : (x : Work) (call : FailedCall) (cause : StoreErr) (had has : List Parts) (old new : Past) → unknown_from cause ≡ Unknown → has ≡ left_by_move call cause x.route.draft x.route.target had → RR x (Unmoved x.route call cause) Anything old new → TellsRename x.route.draft x.route.target had has old new
 tells_rename x OnFile Failed had has old new e is run = inr is
 tells_rename x OnFile Memory had has old new e is run = absurd (cc (e))
 tells_rename x OnNames Failed had has old new e is run = inl (is, record { events = run.events; is = run.is; before = []; after = run.made.rest; among = run.made.is })
@@ -167,12 +168,12 @@ rename_behind draft target events had has old mid new is (inl one) = inl (one.0,
 rename_behind draft target events had has old mid new is (inr both) = inr both
 
 -- behind a written draft
-pub notes_behind : (x : Work) (a b c : ℕ) → a ≤ b → (K : Past → Type 0) (count : ℕ) (had has : List Parts) (old mid new : Past) → RR x (Exactly (draft_plan x.draft x.bytes)) K old mid
-    → Notes (Rose b c) (IsNaming x.draft x.target) count (x.draft ∷ []) had has mid new → Notes (Rose a c) (IsNaming x.draft x.target) count [] had has old new
+pub notes_behind : (x : Work) (a b c : ℕ) → a ≤ b → (K : Past → Type 0) (count : ℕ) (had has : List Parts) (old mid new : Past) → RR x (Exactly (draft_plan x.route.draft x.bytes)) K old mid
+    → Notes (Rose b c) (IsNaming x.route.draft x.route.target) count (x.route.draft ∷ []) had has mid new → Notes (Rose a c) (IsNaming x.route.draft x.route.target) count [] had has old new
 notes_behind x a b c le K count had has old mid new run n =
     let events = n.leaves.events in
     let places = n.leaves.places in
-    let steps : draft_plan x.draft x.bytes ++ ours events ≡ ours (run.events ++ events) = sym (ours-append run.events events ∙ ap (λ (l : List Step). l ++ ours events) run.made) in
+    let steps : draft_plan x.route.draft x.bytes ++ ours events ≡ ours (run.events ++ events) = sym (ours-append run.events events ∙ ap (λ (l : List Step). l ++ ours events) run.made) in
     record {
       left = n.left;
       noted = n.noted;
@@ -182,7 +183,7 @@ notes_behind x a b c le K count had has old mid new run n =
         places = record {
           more = places.more;
           is = places.is ∙ ap (λ (l : List Step). made_by count [] l ++ places.more) steps;
-          cause = more_later (IsNaming x.draft x.target) a b c places.more le places.cause;
+          cause = more_later (IsNaming x.route.draft x.route.target) a b c places.more le places.cause;
         };
       };
     }

@@ -1,5 +1,5 @@
 pub mod StageLaws
 pub mod CallLaws
-pub mod Narrow
+pub mod Working
 pub mod LeftLaws
 pub mod PublishLaws

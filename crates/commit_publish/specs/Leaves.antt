@@ -1,7 +1,6 @@
 -- What each piece of a publish leaves, by its answer.
 use Rattle.std.specs.Prelude.{◌≡◌, ◌⊎◌, ℕ, true, false, List, [], ◌∷◌, ◌++◌, length, Option, Some, Result, Ok, Err}
 use Rattle.ice_store.specs.Places.{Parts}
-use Rattle.ice_store.specs.Files.{is_named}
 use Rattle.ice_store.specs.Others.{WhereTold}
 use Rattle.ice_store.specs.Calls.{Rose}
 use Rattle.ice_store.specs.declared.history.Past.{Past}
@@ -13,11 +12,12 @@ use Rattle.ice_store.specs.declared.store.Made.{Made}
 use Rattle.ice_store.specs.declared.store.Made.TheVariants.{New, Exists}
 use Rattle.ice_store.specs.declared.store.Moved.{Moved}
 use Rattle.ice_store.specs.declared.store.Moved.TheVariants.{Done, Exists as There}
-use Rattle.commit_history.specs.Tables.{GoodBy, ReachBy}
+use Rattle.commit_history.specs.Readings.{Rules}
 use Rattle.commit_history.specs.Runs.{Ran}
-use Rattle.commit_publish.specs.Stages.{Creating, AtRest, Stage, HasDraft, IsTaken, IsLost, InState, IsBased, IsPublished, Exactly, Begun, BegunFill, Anything, Then, Partly, Reaching, draft_plan, fill_plan}
+use Rattle.commit_publish.specs.Stages.{Creating, AtRest, Stage, HasDraft, IsTaken, IsLost, InState, IsNameTaken, Publishes, Exactly, Begun, BegunFill, Anything, Then, Partly, Reaching, PartlyOrReaching, draft_plan, fill_plan, move_plan, drop_plan}
 use Rattle.commit_publish.specs.declared.steps.FailedCall.{FailedCall}
 use Rattle.commit_publish.specs.declared.steps.FailedCall.TheVariants.{OnFile, OnNames}
+use Rattle.commit_publish.specs.declared.steps.Route.{Route}
 use Rattle.commit_publish.specs.declared.steps.StepErr.{StepErr}
 use Rattle.commit_publish.specs.declared.publish.Unwritten.{Unwritten}
 use Rattle.commit_publish.specs.declared.publish.PublishErr.{PublishErr}
@@ -28,6 +28,7 @@ abbrev pub RoseBy : StoreErr → ℕ → ℕ → Type 0
 RoseBy Failed before now = Rose before now
 RoseBy Memory before now = Unit {0}
 
+-- so for a piece's answer
 abbrev pub CallRose : {T : Type 0} → Result T StepErr → ℕ → ℕ → Type 0
 CallRose (Ok x) before now = Unit {0}
 CallRose (Err e) before now = RoseBy e.cause before now
@@ -43,63 +44,75 @@ Unmade draft Failed = Begun (Create draft ∷ [])
 Unmade draft Memory = Exactly []
 
 -- of a rename with the sync behind it: only where the rename itself failed it may not have taken place
-abbrev pub Unmoved : Parts → Parts → FailedCall → StoreErr → List Step → Type 0
-Unmoved draft target OnFile Failed = Begun (Rename draft target ∷ [])
-Unmoved draft target OnFile Memory = Exactly []
-Unmoved draft target OnNames cause = Then (Rename draft target ∷ []) (Begun (SyncNames ∷ []))
+abbrev pub Unmoved : Route → FailedCall → StoreErr → List Step → Type 0
+Unmoved route OnFile Failed = Begun (Rename route.draft route.target ∷ [])
+Unmoved route OnFile Memory = Exactly []
+Unmoved route OnNames cause = Then (Rename route.draft route.target ∷ []) (Begun (SyncNames ∷ []))
 
 -- and of a removal with the sync behind it
-abbrev pub Undropped : Parts → FailedCall → StoreErr → List Step → Type 0
-Undropped draft OnFile Failed = Begun (Remove draft ∷ [])
-Undropped draft OnFile Memory = Exactly []
-Undropped draft OnNames cause = Then (Remove draft ∷ []) (Begun (SyncNames ∷ []))
+abbrev pub Undropped : Route → FailedCall → StoreErr → List Step → Type 0
+Undropped route OnFile Failed = Begun (Remove route.draft ∷ [])
+Undropped route OnFile Memory = Exactly []
+Undropped route OnNames cause = Then (Remove route.draft ∷ []) (Begun (SyncNames ∷ []))
 
-module _ (number : Parts → ℕ) (Good : GoodBy) (Reached : ReachBy) (allows : Past → Step → Type 0) where
-  abbrev pub MakeLeaves : Parts → Parts → Parts → Result Made StepErr → Past → Past → Type 0
-  MakeLeaves base target draft (Ok New) = Ran number Good Reached allows (Exactly (Create draft ∷ [])) (InState (Stage number base target Creating (HasDraft draft false [])))
-  MakeLeaves base target draft (Ok Exists) = Ran number Good Reached allows (Exactly []) (InState (λ d. is_named d.files draft ≡ true))
-  MakeLeaves base target draft (Err e) = Ran number Good Reached allows (Unmade draft e.cause) Anything
+module _ (rules : Rules) (route : Route) where
+  -- the draft is written, sealed and durable
+  abbrev pub IsWritten : List ℕ → Past → Type 0
+  IsWritten bytes = InState (Stage rules.reading.number route AtRest (HasDraft route.draft true bytes))
 
-  abbrev pub FillLeaves : Parts → Parts → Parts → List ℕ → Result (Unit {0}) StepErr → Past → Past → Type 0
-  FillLeaves base target draft bytes (Ok u) = Ran number Good Reached allows (Exactly (fill_plan draft bytes)) (InState (Stage number base target AtRest (HasDraft draft true bytes)))
-  FillLeaves base target draft bytes (Err e) = Ran number Good Reached allows (BegunFill draft bytes) Anything
+  -- so is it, and the target is taken
+  abbrev pub IsBeaten : List ℕ → Past → Type 0
+  IsBeaten bytes = InState (Stage rules.reading.number route AtRest (IsTaken route bytes))
 
-  abbrev pub MoveLeaves : Parts → List ℕ → Parts → Parts → List ℕ → Result Moved StepErr → Past → Past → Type 0
-  MoveLeaves base text target draft bytes (Ok Done) old new =
-      Ran number Good Reached allows (Exactly (Rename draft target ∷ SyncNames ∷ [])) (IsPublished number text bytes (IsBased number Good Reached base text old)) old new
-  MoveLeaves base text target draft bytes (Ok There) old new = Ran number Good Reached allows (Exactly []) (InState (Stage number base target AtRest (IsTaken draft bytes target))) old new
-  MoveLeaves base text target draft bytes (Err e) old new = Ran number Good Reached allows (Unmoved draft target e.call e.cause) Anything old new
+  -- what the draft's creation leaves
+  abbrev pub MakeLeaves : Result Made StepErr → Past → Past → Type 0
+  MakeLeaves (Ok New) = Ran rules (Exactly (Create route.draft ∷ [])) (InState (Stage rules.reading.number route Creating (HasDraft route.draft false [])))
+  MakeLeaves (Ok Exists) = Ran rules (Exactly []) (IsNameTaken route)
+  MakeLeaves (Err e) = Ran rules (Unmade route.draft e.cause) Anything
 
-  abbrev pub DropLeaves : Parts → Parts → Result (Unit {0}) StepErr → Past → Past → Type 0
-  DropLeaves draft target (Ok u) = Ran number Good Reached allows (Exactly (Remove draft ∷ SyncNames ∷ [])) (InState (IsLost target))
-  DropLeaves draft target (Err e) = Ran number Good Reached allows (Undropped draft e.call e.cause) Anything
+  -- what its filling leaves
+  abbrev pub FillLeaves : List ℕ → Result (Unit {0}) StepErr → Past → Past → Type 0
+  FillLeaves bytes (Ok u) = Ran rules (Exactly (fill_plan route.draft bytes)) (IsWritten bytes)
+  FillLeaves bytes (Err e) = Ran rules (BegunFill route.draft bytes) Anything
 
-  abbrev pub UnwrittenLeaves : Parts → List ℕ → PublishErr → Past → Past → Type 0
-  UnwrittenLeaves draft bytes NameTaken = Ran number Good Reached allows (Exactly []) (InState (λ d. is_named d.files draft ≡ true))
-  UnwrittenLeaves draft bytes Contended = λ old new. ⊥
-  UnwrittenLeaves draft bytes Unknown = λ old new. ⊥
-  UnwrittenLeaves draft bytes (Fault call) = Ran number Good Reached allows (Partly draft bytes) Anything
-  UnwrittenLeaves draft bytes NoMemory = Ran number Good Reached allows (Partly draft bytes) Anything
+  -- what its rename leaves
+  abbrev pub MoveLeaves : List ℕ → Result Moved StepErr → Past → Past → Type 0
+  MoveLeaves bytes (Ok Done) old new = Ran rules (Exactly (move_plan route)) (Publishes rules.reading route bytes old) old new
+  MoveLeaves bytes (Ok There) old new = Ran rules (Exactly []) (IsBeaten bytes) old new
+  MoveLeaves bytes (Err e) old new = Ran rules (Unmoved route e.call e.cause) Anything old new
 
-  abbrev pub WriteLeaves : Parts → Parts → Parts → List ℕ → Result (Unit {0}) Unwritten → Past → Past → Type 0
-  WriteLeaves base target draft bytes (Ok u) = Ran number Good Reached allows (Exactly (draft_plan draft bytes)) (InState (Stage number base target AtRest (HasDraft draft true bytes)))
-  WriteLeaves base target draft bytes (Err e) = UnwrittenLeaves draft bytes e.error
+  -- what its removal leaves
+  abbrev pub DropLeaves : Result (Unit {0}) StepErr → Past → Past → Type 0
+  DropLeaves (Ok u) = Ran rules (Exactly (drop_plan route)) (InState (IsLost route.target))
+  DropLeaves (Err e) = Ran rules (Undropped route e.call e.cause) Anything
 
-  -- from a written draft on
-  abbrev pub FinishLeaves : Parts → List ℕ → Parts → Parts → List ℕ → Result (Unit {0}) PublishErr → Past → Past → Type 0
-  FinishLeaves base text target draft bytes (Ok u) old new = Ran number Good Reached allows (Exactly (Rename draft target ∷ SyncNames ∷ [])) (IsPublished number text bytes (IsBased number Good Reached base text old)) old new
-  FinishLeaves base text target draft bytes (Err NameTaken) old new = ⊥
-  FinishLeaves base text target draft bytes (Err Contended) old new = Ran number Good Reached allows (Exactly (Remove draft ∷ SyncNames ∷ [])) (InState (IsLost target)) old new
-  FinishLeaves base text target draft bytes (Err Unknown) old new = Ran number Good Reached allows (Begun (Rename draft target ∷ SyncNames ∷ [])) Anything old new
-  FinishLeaves base text target draft bytes (Err (Fault call)) old new = Ran number Good Reached allows (Begun (Remove draft ∷ SyncNames ∷ [])) Anything old new
-  FinishLeaves base text target draft bytes (Err NoMemory) old new = Ran number Good Reached allows (λ steps. Begun (Rename draft target ∷ SyncNames ∷ []) steps ⊎ Begun (Remove draft ∷ SyncNames ∷ []) steps) Anything old new
+  -- what a draft leaves that wasn't written
+  abbrev pub UnwrittenLeaves : List ℕ → PublishErr → Past → Past → Type 0
+  UnwrittenLeaves bytes NameTaken = Ran rules (Exactly []) (IsNameTaken route)
+  UnwrittenLeaves bytes Contended = λ old new. ⊥
+  UnwrittenLeaves bytes Unknown = λ old new. ⊥
+  UnwrittenLeaves bytes (Fault call) = Ran rules (Partly route bytes) Anything
+  UnwrittenLeaves bytes NoMemory = Ran rules (Partly route bytes) Anything
+
+  -- what the writing of a draft leaves
+  abbrev pub WriteLeaves : List ℕ → Result (Unit {0}) Unwritten → Past → Past → Type 0
+  WriteLeaves bytes (Ok u) = Ran rules (Exactly (draft_plan route.draft bytes)) (IsWritten bytes)
+  WriteLeaves bytes (Err e) = UnwrittenLeaves bytes e.error
+
+  -- what a publish leaves from the written draft on
+  abbrev pub FinishLeaves : List ℕ → Result (Unit {0}) PublishErr → Past → Past → Type 0
+  FinishLeaves bytes (Ok u) old new = Ran rules (Exactly (move_plan route)) (Publishes rules.reading route bytes old) old new
+  FinishLeaves bytes (Err NameTaken) old new = ⊥
+  FinishLeaves bytes (Err Contended) old new = Ran rules (Exactly (drop_plan route)) (InState (IsLost route.target)) old new
+  FinishLeaves bytes (Err Unknown) old new = Ran rules (Begun (move_plan route)) Anything old new
+  FinishLeaves bytes (Err (Fault call)) old new = Ran rules (Begun (drop_plan route)) Anything old new
+  FinishLeaves bytes (Err NoMemory) old new = Ran rules (λ steps. Begun (move_plan route) steps ⊎ Begun (drop_plan route) steps) Anything old new
 
   -- what a publish leaves
-  abbrev pub PublishLeaves : Parts → List ℕ → Parts → Parts → List ℕ → Result (Unit {0}) PublishErr → Past → Past → Type 0
-  PublishLeaves base text target draft bytes (Ok u) old new =
-      Ran number Good Reached allows (Exactly (draft_plan draft bytes ++ (Rename draft target ∷ SyncNames ∷ []))) (IsPublished number text bytes (IsBased number Good Reached base text old)) old new
-  PublishLeaves base text target draft bytes (Err NameTaken) old new = Ran number Good Reached allows (Exactly []) (InState (λ d. is_named d.files draft ≡ true)) old new
-  PublishLeaves base text target draft bytes (Err Contended) old new = Ran number Good Reached allows (Exactly (draft_plan draft bytes ++ (Remove draft ∷ SyncNames ∷ []))) (InState (IsLost target)) old new
-  PublishLeaves base text target draft bytes (Err Unknown) old new = Ran number Good Reached allows (Reaching draft bytes target) Anything old new
-  PublishLeaves base text target draft bytes (Err (Fault call)) old new = Ran number Good Reached allows (Partly draft bytes) Anything old new
-  PublishLeaves base text target draft bytes (Err NoMemory) old new = Ran number Good Reached allows (λ steps. Partly draft bytes steps ⊎ Reaching draft bytes target steps) Anything old new
+  abbrev pub PublishLeaves : List ℕ → Result (Unit {0}) PublishErr → Past → Past → Type 0
+  PublishLeaves bytes (Ok u) old new = Ran rules (Exactly (draft_plan route.draft bytes ++ move_plan route)) (Publishes rules.reading route bytes old) old new
+  PublishLeaves bytes (Err NameTaken) old new = Ran rules (Exactly []) (IsNameTaken route) old new
+  PublishLeaves bytes (Err Contended) old new = Ran rules (Exactly (draft_plan route.draft bytes ++ drop_plan route)) (InState (IsLost route.target)) old new
+  PublishLeaves bytes (Err Unknown) old new = Ran rules (Reaching route bytes) Anything old new
+  PublishLeaves bytes (Err (Fault call)) old new = Ran rules (Partly route bytes) Anything old new
+  PublishLeaves bytes (Err NoMemory) old new = Ran rules (PartlyOrReaching route bytes) Anything old new

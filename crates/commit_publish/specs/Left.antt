@@ -8,7 +8,9 @@ use Rattle.ice_store.specs.declared.history.Step.{Step}
 use Rattle.ice_store.specs.declared.history.Step.TheVariants.{Create, Append, Seal, Rename, Remove, SyncNames}
 use Rattle.commit_history.specs.Runs.{ours}
 use Rattle.commit_publish.specs.declared.publish.PublishErr.{PublishErr}
+use Rattle.commit_publish.specs.declared.steps.Route.{Route}
 
+-- these places without one
 abbrev pub without_place : List Parts → Parts → List Parts
 without_place places place = filter (λ p. not (same_place p place)) places
 
@@ -26,6 +28,7 @@ places_after count places (Rename from to) = renamed_away count places from
 places_after count places (Remove place) = without_place places place
 places_after count places SyncNames = places
 
+-- one less, and 0 of 0
 abbrev pub one_less : ℕ → ℕ
 one_less zero = zero
 one_less (suc count) = count
@@ -100,3 +103,11 @@ draft_if false draft = []
 abbrev pub committed_count : Result (Unit {0}) PublishErr → ℕ
 committed_count (Ok u) = 1
 committed_count (Err e) = 0
+
+-- a draft that wasn't written is left, where it may stand
+abbrev pub LeavesDraft : Type 0 → Route → Bool → Past → Past → Type 0
+LeavesDraft Risen route is_made = Leaves Risen (IsNaming route.draft route.target) 0 [] (draft_if is_made route.draft)
+
+-- a publish's log has the places that it left, of these before and of those that its steps name
+abbrev pub PublishNotes : Type 0 → Route → Result (Unit {0}) PublishErr → List Parts → List Parts → List Parts → Past → Past → Type 0
+PublishNotes Risen route result before = Notes Risen (IsNaming route.draft route.target) (committed_count result) before

@@ -10,10 +10,12 @@ use Rattle.commit_publish.specs.declared.publish.Unwritten.{Unwritten}
 use Rattle.commit_publish.specs.declared.publish.PublishErr.{PublishErr}
 use Rattle.commit_publish.specs.declared.publish.PublishErr.TheVariants.{NameTaken, Contended, Unknown, Fault, NoMemory}
 
+-- the error of a publish where a call didn't do its work
 abbrev pub fault_from : StoreErr → FailedCall → PublishErr
 fault_from Failed call = Fault call
 fault_from Memory call = NoMemory
 
+-- and where that call was the rename, or the sync behind it
 abbrev pub unknown_from : StoreErr → PublishErr
 unknown_from Failed = Unknown
 unknown_from Memory = NoMemory
@@ -51,10 +53,12 @@ IsMadeBy Unknown is_made = ⊥
 IsMadeBy (Fault call) is_made = is_made ≡ true
 IsMadeBy NoMemory is_made = Unit {0}
 
+-- so for the writing of a draft
 abbrev pub WriteRose : Result (Unit {0}) Unwritten → ℕ → ℕ → Type 0
 WriteRose (Ok u) before now = Unit {0}
 WriteRose (Err e) before now = PublishRose (Err e.error) before now
 
+-- a call failed, and didn't only lack memory
 abbrev pub is_failed : StoreErr → Bool
 is_failed Failed = true
 is_failed Memory = false

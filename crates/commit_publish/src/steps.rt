@@ -1,19 +1,15 @@
 //! The pieces of a publish, each of a few store calls.
-ghost use Rattle.std.specs.Prelude.{◌≡◌, ◌≤◌, true, false, [], ℕ, List};
-ghost use Rattle.ice_store.specs.Places.{Parts};
+ghost use Rattle.std.specs.Prelude.{◌≡◌, ◌≤◌, true, false, []};
 ghost use Rattle.ice_store.specs.Others.{WhereTold};
 ghost use Rattle.ice_store.specs.Since.{Since};
+ghost use Rattle.commit_history.specs.Readings.{rules_of};
 ghost use Rattle.commit_history.specs.Mannered.{IsMannered};
 ghost use Rattle.commit_history.specs.Versions.{number_in};
-ghost use Rattle.commit_publish.specs.Stages.{Narrow, NoReach, Creating, AtRest, Aim, Stage, NoFile, HasDraft, IsTaken, InState};
+ghost use Rattle.commit_publish.specs.Stages.{IsNarrow, Creating, AtRest, Aim, Stage, NoFile, HasDraft, IsTaken, InState};
 ghost use Rattle.commit_publish.specs.Leaves.{MakeLeaves, FillLeaves, MoveLeaves, DropLeaves, CallRose, Halts};
 
+use commit_history::TableReading;
 use ice_store::{Bytes, Made, Manners, Moved, Place, Store, StoreErr};
-
-/// Which bytes are the metadata of a table at a place.
-pub trait Format {
-    ghost reads: { Parts → List ℕ → Type 0 };
-}
 
 /// Where a publish works.
 #[derive(Debug, Drop)]
@@ -63,14 +59,14 @@ fn on_names(cause: StoreErr) -> StepErr
 }
 
 /// Creates the draft; `Exists` where its name is taken.
-pub fn make_draft<F: Format, M: Manners, S: Store<M>>(
+pub fn make_draft<R: TableReading, M: Manners, S: Store<M>>(
     store: &mut S,
     route: &Route,
 ) -> Result<Made, StepErr>
-    requires mannered { IsMannered (number_in route.now.table) (Narrow F.reads route.now.table) NoReach (M.allows (S.manners store.old)) }
-    requires aim { Aim (number_in route.now.table) route.now.draft route.now.base route.now.target }
-    requires start { WhereTold (S.past store.old) (InState (Stage (number_in route.now.table) route.now.base route.now.target Creating NoFile)) }
-    ensures told { Since (S.past store.old) (S.past store.new) (MakeLeaves (number_in route.now.table) (Narrow F.reads route.now.table) NoReach (M.allows (S.manners store.old)) route.now.base route.now.target route.now.draft result) }
+    requires mannered { IsMannered (rules_of R.content route.now.table (M.allows (S.manners store.old))) }
+    requires aim { Aim (number_in route.now.table) route.now }
+    requires start { WhereTold (S.past store.old) (InState (Stage (number_in route.now.table) route.now Creating NoFile)) }
+    ensures told { Since (S.past store.old) (S.past store.new) (MakeLeaves (rules_of R.content route.now.table (M.allows (S.manners store.old))) route.now result) }
     ensures manners { S.manners store.new ≡ S.manners store.old }
     ensures cause { CallRose result (S.faults store.old) (S.faults store.new) }
     ensures later { S.faults store.old ≤ S.faults store.new }
@@ -83,15 +79,15 @@ pub fn make_draft<F: Format, M: Manners, S: Store<M>>(
 }
 
 /// Writes and seals the draft, and makes its name durable.
-pub fn fill_draft<F: Format, M: Manners, S: Store<M>>(
+pub fn fill_draft<R: TableReading, M: Manners, S: Store<M>>(
     store: &mut S,
     route: &Route,
     bytes: &[u8],
 ) -> Result<(), StepErr>
-    requires mannered { IsMannered (number_in route.now.table) (Narrow F.reads route.now.table) NoReach (M.allows (S.manners store.old)) }
-    requires aim { Aim (number_in route.now.table) route.now.draft route.now.base route.now.target }
-    requires start { WhereTold (S.past store.old) (InState (Stage (number_in route.now.table) route.now.base route.now.target Creating (HasDraft route.now.draft false []))) }
-    ensures told { Since (S.past store.old) (S.past store.new) (FillLeaves (number_in route.now.table) (Narrow F.reads route.now.table) NoReach (M.allows (S.manners store.old)) route.now.base route.now.target route.now.draft bytes.now result) }
+    requires mannered { IsMannered (rules_of R.content route.now.table (M.allows (S.manners store.old))) }
+    requires aim { Aim (number_in route.now.table) route.now }
+    requires start { WhereTold (S.past store.old) (InState (Stage (number_in route.now.table) route.now Creating (HasDraft route.now.draft false []))) }
+    ensures told { Since (S.past store.old) (S.past store.new) (FillLeaves (rules_of R.content route.now.table (M.allows (S.manners store.old))) route.now bytes.now result) }
     ensures manners { S.manners store.new ≡ S.manners store.old }
     ensures cause { CallRose result (S.faults store.old) (S.faults store.new) }
     ensures later { S.faults store.old ≤ S.faults store.new }
@@ -112,16 +108,16 @@ pub fn fill_draft<F: Format, M: Manners, S: Store<M>>(
 }
 
 /// Renames the draft to the target, and makes that durable; `Exists` where the target is taken.
-pub fn move_draft<F: Format, M: Manners, S: Store<M>>(
+pub fn move_draft<R: TableReading, M: Manners, S: Store<M>>(
     store: &mut S,
     route: &Route,
     bytes: &[u8],
 ) -> Result<Moved, StepErr>
-    requires mannered { IsMannered (number_in route.now.table) (Narrow F.reads route.now.table) NoReach (M.allows (S.manners store.old)) }
-    requires aim { Aim (number_in route.now.table) route.now.draft route.now.base route.now.target }
-    requires start { WhereTold (S.past store.old) (InState (Stage (number_in route.now.table) route.now.base route.now.target AtRest (HasDraft route.now.draft true bytes.now))) }
-    requires reads { F.reads route.now.table bytes.now }
-    ensures told { Since (S.past store.old) (S.past store.new) (MoveLeaves (number_in route.now.table) (Narrow F.reads route.now.table) NoReach (M.allows (S.manners store.old)) route.now.base route.now.text route.now.target route.now.draft bytes.now result) }
+    requires mannered { IsMannered (rules_of R.content route.now.table (M.allows (S.manners store.old))) }
+    requires aim { Aim (number_in route.now.table) route.now }
+    requires start { WhereTold (S.past store.old) (InState (Stage (number_in route.now.table) route.now AtRest (HasDraft route.now.draft true bytes.now))) }
+    requires narrow { IsNarrow (R.content route.now.table) bytes.now }
+    ensures told { Since (S.past store.old) (S.past store.new) (MoveLeaves (rules_of R.content route.now.table (M.allows (S.manners store.old))) route.now bytes.now result) }
     ensures manners { S.manners store.new ≡ S.manners store.old }
     ensures cause { CallRose result (S.faults store.old) (S.faults store.new) }
     ensures later { S.faults store.old ≤ S.faults store.new }
@@ -139,15 +135,16 @@ pub fn move_draft<F: Format, M: Manners, S: Store<M>>(
 }
 
 /// Removes the draft of a publish that met a taken target, and makes that durable.
-pub fn drop_draft<F: Format, M: Manners, S: Store<M>>(
+pub fn drop_draft<R: TableReading, M: Manners, S: Store<M>>(
     store: &mut S,
     route: &Route,
     bytes: &[u8],
 ) -> Result<(), StepErr>
-    requires mannered { IsMannered (number_in route.now.table) (Narrow F.reads route.now.table) NoReach (M.allows (S.manners store.old)) }
-    requires aim { Aim (number_in route.now.table) route.now.draft route.now.base route.now.target }
-    requires start { WhereTold (S.past store.old) (InState (Stage (number_in route.now.table) route.now.base route.now.target AtRest (IsTaken route.now.draft bytes.now route.now.target))) }
-    ensures told { Since (S.past store.old) (S.past store.new) (DropLeaves (number_in route.now.table) (Narrow F.reads route.now.table) NoReach (M.allows (S.manners store.old)) route.now.draft route.now.target result) }
+    requires mannered { IsMannered (rules_of R.content route.now.table (M.allows (S.manners store.old))) }
+    requires aim { Aim (number_in route.now.table) route.now }
+    requires start { WhereTold (S.past store.old) (InState (Stage (number_in route.now.table) route.now AtRest (IsTaken route.now bytes.now))) }
+    requires narrow { IsNarrow (R.content route.now.table) bytes.now }
+    ensures told { Since (S.past store.old) (S.past store.new) (DropLeaves (rules_of R.content route.now.table (M.allows (S.manners store.old))) route.now result) }
     ensures manners { S.manners store.new ≡ S.manners store.old }
     ensures cause { CallRose result (S.faults store.old) (S.faults store.new) }
     ensures later { S.faults store.old ≤ S.faults store.new }

@@ -16,7 +16,8 @@ use Rattle.ice_store.specs.declared.history.Step.{Step}
 use Rattle.ice_store.specs.declared.history.Who.TheVariants.{Them}
 use Rattle.ice_store.specs.declared.store.Listed.{Listed}
 use Rattle.ice_store.specs.declared.store.StoreErr.{StoreErr}
-use Rattle.commit_history.specs.Tables.{version, table, sealed_at, sealed_bytes, GoodBy, ReachBy, Whole, IsLocal, IsNumbering}
+use Rattle.commit_history.specs.Tables.{version, table, sealed_at, sealed_bytes, Whole, IsNumbering}
+use Rattle.commit_history.specs.Readings.{Rules, IsLocal}
 use Rattle.commit_history.specs.Commits.{standing}
 use Rattle.commit_history.specs.Steady.{Steady}
 use Rattle.commit_history.specs.Mannered.{IsMannered}
@@ -57,9 +58,15 @@ drop_none : (l : List ℕ) → drop 0 l ≡ l
 drop_none [] = refl
 drop_none (x ∷ l) = refl
 
-module _ (number : Parts → ℕ) (Good : GoodBy) (Reached : ReachBy) (allows : Past → Step → Type 0) (ruled : IsNumbering number) (localized : IsLocal Good Reached) (mannered : IsMannered number Good Reached allows) where
+module _ (rules : Rules) (ruled : IsNumbering rules.reading.number) (localized : IsLocal rules.reading) (mannered : IsMannered rules) where
+  abbrev pub number : Parts → ℕ
+  number = rules.reading.number
+
+  abbrev pub allows : Past → Step → Type 0
+  allows = rules.allows
+
   abbrev pub RR : (List Step → Type 0) → (Past → Type 0) → Past → Past → Type 0
-  RR = Ran number Good Reached allows
+  RR = Ran rules
 
   abbrev pub KC : Past → Type 0
   KC = InState (λ d. Creating d.pending)
@@ -68,7 +75,7 @@ module _ (number : Parts → ℕ) (Good : GoodBy) (Reached : ReachBy) (allows : 
   KO base = InState (OpenStage number base)
 
   abbrev pub Kp : (Past → Type 0) → Type 0
-  Kp = Kept number Good Reached allows ruled localized mannered
+  Kp = Kept rules ruled localized mannered
 
   kc : Kp KC
   kc past step t may here = subst (λ (d : Disk). Creating d.pending) (sym (replay-later past (them step t ∷ []))) tt
@@ -90,27 +97,27 @@ module _ (number : Parts → ℕ) (Good : GoodBy) (Reached : ReachBy) (allows : 
       ]
 
   pub starts : (K : Past → Type 0) (old : Past) → K old → RR (Exactly []) K old old
-  starts = begins number Good Reached allows ruled localized
+  starts = begins rules ruled localized
 
   pub forget : (K : Past → Type 0) (old now : Past) → RR (Exactly []) K old now → RR (Exactly []) Anything old now
-  forget K old now run = ran_turned number Good Reached allows (Exactly []) (Exactly []) K Anything old now run (λ l e. e) (λ h. tt)
+  forget K old now run = ran_turned rules (Exactly []) (Exactly []) K Anything old now run (λ l e. e) (λ h. tt)
 
   pub turn : (K L : Past → Type 0) (old now : Past) → RR (Exactly []) K old now → (K now → L now) → RR (Exactly []) L old now
-  turn K L old now run f = ran_turned number Good Reached allows (Exactly []) (Exactly []) K L old now run (λ l e. e) f
+  turn K L old now run f = ran_turned rules (Exactly []) (Exactly []) K L old now run (λ l e. e) f
 
   none_more : (l k : List Step) → l ≡ [] → k ≡ [] → l ++ k ≡ []
   none_more l k a b = ap (λ (x : List Step). x ++ k) a ∙ b
 
   pub idle_then : (K L : Past → Type 0) (old mid new : Past) → RR (Exactly []) K old mid → RR (Exactly []) L mid new → RR (Exactly []) L old new
-  idle_then K L old mid new a b = ran_then number Good Reached allows (Exactly []) (Exactly []) (Exactly []) K L none_more old mid new a b
+  idle_then K L old mid new a b = ran_then rules (Exactly []) (Exactly []) (Exactly []) K L none_more old mid new a b
 
   -- a call that adds nothing
   module _ (K : Past → Type 0) (kept : Kp K) (old now new : Past) (run : RR (Exactly []) K old now) (A : Disk → List Event → Type 0) (told : Answered allows now (Some new) A) (none : told.ours ≡ []) where
     still : RR (Exactly []) K old new
-    still = idle number Good Reached allows ruled localized mannered (Exactly []) K kept old now new run A told none
+    still = idle rules ruled localized mannered (Exactly []) K kept old now new run A told none
 
     same_at : told.reached ≡ new
-    same_at = sym (new_is number Good Reached allows ruled localized mannered (Exactly []) K kept old now new run A told ∙ ap (λ (es : List Event). later told.reached es) none ∙ later-nil told.reached)
+    same_at = sym (new_is rules ruled localized mannered (Exactly []) K kept old now new run A told ∙ ap (λ (es : List Event). later told.reached es) none ∙ later-nil told.reached)
 
   -- The listing.
 
@@ -149,29 +156,29 @@ module _ (number : Parts → ℕ) (Good : GoodBy) (Reached : ReachBy) (allows : 
           subst (λ (p : Parts). is_named fs p ≡ true) (sym it) (ap is_some at.1.stands)
 
       -- in a whole map the version's file is sealed
-      sealed_base : (fs : List Held) → Whole number Good fs → version number fs ≡ number base → (b : List ℕ) × (sealed_at fs base ≡ Some b)
+      sealed_base : (fs : List Held) → Whole rules.reading fs → version number fs ≡ number base → (b : List ℕ) × (sealed_at fs base ≡ Some b)
       sealed_base fs (inl none) is = absurd (omega (arith, none, is, pos))
       sealed_base fs (inr good) is =
           let at = version_named number fs (omega (arith, is, pos)) in
           let it : base ≡ at.0 = ruled.single base at.0 pos (sym is ∙ sym at.1.is) in
           (good.bytes, subst (λ (p : Parts). sealed_at fs p ≡ Some good.bytes) (sym it) (sym (table_is number ruled fs at.0 at.1 (omega (arith, is, pos))) ∙ good.is))
 
-      base_at : Steady number Good Reached (standing number old) → (b : List ℕ) × (sealed_at (replay now).files base ≡ Some b)
+      base_at : Steady rules.reading (standing number old) → (b : List ℕ) × (sealed_at (replay now).files base ≡ Some b)
       base_at steady =
-          let s = along_last (IsSafe number Good Reached) old l.run.events (l.run.safe steady) in
-          let here : Steady number Good Reached (standing number now) = subst (λ p. Steady number Good Reached (standing number p)) (sym l.run.is) s.steady in
-          sealed_base (replay now).files (subst (λ (d : Disk). Whole number Good d.files) (standing_disk number now) here.whole) last_base
+          let s = along_last (IsSafe rules.reading) old l.run.events (l.run.safe steady) in
+          let here : Steady rules.reading (standing number now) = subst (λ p. Steady rules.reading (standing number p)) (sym l.run.is) s.steady in
+          sealed_base (replay now).files (subst (λ (d : Disk). Whole rules.reading d.files) (standing_disk number now) here.whole) last_base
 
-      is_base : number base < version_limit → IsBase number Good Reached allows base old now
+      is_base : number base < version_limit → IsBase rules base old now
       is_base below = record { positive = pos; below = below; run = at_listing; last = last_base; named = base_named; sealed = base_at }
 
-    pub found_ok : (f : Found) → IsFound number listed f → FindLeaves number Good Reached allows (Ok f) old now
+    pub found_ok : (f : Found) → IsFound number listed f → FindLeaves rules (Ok f) old now
     found_ok NoVersion none = turn KC (InState (λ d. version number d.files ≡ 0)) old now l.run (λ h. last_is ∙ none)
     found_ok (Base base v) (is, greatest_is) = is_base base (omega (arith, is.is, is.positive)) (is.is ∙ greatest_is) (omega (arith, is.is, is.below))
     found_ok (Beyond place) (beyond, all) = turn KC (InState (λ d. IsBeyond number place d.files)) old now l.run (λ h. is_beyond dir number within (replay now).files listed l.is place beyond (record { place = place; ms = 0; size = 0 }) (omega (arith, all, last_is)))
 
   pub find_ok : (dir : Parts) (within : (p : Parts) → 0 < number p → is_under p dir ≡ true) (listed : List Listed) (f : Found) → IsFound number listed f → (old now new : Past) → RR (Exactly []) KC old now
-      → Answered allows now (Some new) (NamesAnswer dir (Ok listed)) → FindLeaves number Good Reached allows (Ok f) old new
+      → Answered allows now (Some new) (NamesAnswer dir (Ok listed)) → FindLeaves rules (Ok f) old new
   find_ok dir within listed f is old now new run told = found_ok dir within listed old new (names_ok dir listed old now new run told) f is
 
   -- The read.
@@ -239,13 +246,13 @@ module _ (number : Parts → ℕ) (Good : GoodBy) (Reached : ReachBy) (allows : 
             there ∙ ap (λ (x : List ℕ). Some x) (sym is ∙ all_of)
 
     module _ (limit : ℕ) (same_limit : limit ≡ file_limit) (n : ℕ) (more : n ≡ limit + 1) (text : List ℕ) (old new : Past) (here : KO base old) (told : Answered allows old (Some new) (ReadAnswer base 0 n (Ok (Some text)))) where
-      long : limit < length text → ReadLeaves number Good Reached allows base (Ok texts.TooLong) old new
+      long : limit < length text → ReadLeaves rules base (Ok texts.TooLong) old new
       long lt =
           let f = fronts limit n more text old new here told in
           turn (KO base) (InState (λ d. IsLong base d.files)) old new (read_run n (Some text) old new here told)
           (λ k. record { file = f.file; stands = f.stands; long = subst (λ (m : ℕ). m < length f.file.bytes) same_limit (longer limit n more text old new here told lt) })
 
-      whole : length text ≤ limit → ReadLeaves number Good Reached allows base (Ok (texts.Whole text)) old new
+      whole : length text ≤ limit → ReadLeaves rules base (Ok (texts.Whole text)) old new
       whole le =
           let f = fronts limit n more text old new here told in
           record {
@@ -255,14 +262,14 @@ module _ (number : Parts → ℕ) (Good : GoodBy) (Reached : ReachBy) (allows : 
             sealed = still_sealed limit n more text old new here told le;
           }
 
-      pub read_ok : ReadLeaves number Good Reached allows base (Ok (if nat_lt limit (length text) then texts.TooLong else texts.Whole text)) old new
+      pub read_ok : ReadLeaves rules base (Ok (if nat_lt limit (length text) then texts.TooLong else texts.Whole text)) old new
       read_ok = by_test (nat_lt limit (length text))
           (λ e. rw e (long (grind (arith, nat_tests))))
           (λ e. rw e (whole (grind (arith, nat_tests))))
 
   -- Both.
 
-  pub opened : (base : Parts) (text : List ℕ) (old mid new : Past) → IsBase number Good Reached allows base old mid → IsText number Good Reached allows base text mid new → IsOpened number Good Reached allows base text old new
+  pub opened : (base : Parts) (text : List ℕ) (old mid new : Past) → IsBase rules base old mid → IsText rules base text mid new → IsOpened rules base text old new
   opened base text old mid new b t = record {
     listed = record { positive = b.positive; below = b.below; listed = mid; listing = forget (KO base) old mid b.run; last = b.last; named = b.named; run = idle_then (KO base) (KO base) old mid new b.run t.run };
     file = t.file;
@@ -270,27 +277,27 @@ module _ (number : Parts → ℕ) (Good : GoodBy) (Reached : ReachBy) (allows : 
     sealed = λ steady. let s = b.sealed steady in t.sealed s.0 s.1;
   }
 
-  pub listed_then : (base : Parts) (K : Past → Type 0) (old mid new : Past) → IsBase number Good Reached allows base old mid → RR (Exactly []) K mid new → WasListed number Good Reached allows base K old new
+  pub listed_then : (base : Parts) (K : Past → Type 0) (old mid new : Past) → IsBase rules base old mid → RR (Exactly []) K mid new → WasListed rules base K old new
   listed_then base K old mid new b run = record { positive = b.positive; below = b.below; listed = mid; listing = forget (KO base) old mid b.run; last = b.last; named = b.named; run = idle_then (KO base) K old mid new b.run run }
 
-  pub idle_after : (base : Parts) (old mid new : Past) → IsBase number Good Reached allows base old mid → RR (Exactly []) Anything mid new → RR (Exactly []) Anything old new
+  pub idle_after : (base : Parts) (old mid new : Past) → IsBase rules base old mid → RR (Exactly []) Anything mid new → RR (Exactly []) Anything old new
   idle_after base old mid new b run = idle_then (KO base) Anything old mid new b.run run
 
   -- Both calls, by their answers.
 
   abbrev pub Found_ : Result Found StoreErr → Past → Past → Type 0
-  Found_ = FindLeaves number Good Reached allows
+  Found_ = FindLeaves rules
 
   pub find_by : (dir : Parts) (within : (p : Parts) → 0 < number p → is_under p dir ≡ true) (listed : List Listed) (r : Result Found StoreErr) → IfOk r (IsFound number listed) → (old now new : Past) → RR (Exactly []) KC old now
       → Answered allows now (Some new) (NamesAnswer dir (Ok listed)) → Found_ r old new
   find_by dir within listed (Ok f) is old now new run told = find_ok dir within listed f is old now new run told
   find_by dir within listed (Err e) is old now new run told = names_any dir listed old now new run told
 
-  module _ (table base : Parts) (old mid new : Past) (b : IsBase number Good Reached allows base old mid) where
-    read_err_by : (e : ReadErr) → ReadErrOf number Good Reached allows base e mid new → ReadErrLeaves number Good Reached allows e old new
-    read_err_by (Missing place) r = subst (λ (p : Parts). WasListed number Good Reached allows p (InState (λ d. is_named d.files p ≡ false)) old new) (sym r.0) (listed_then base (InState (λ d. is_named d.files base ≡ false)) old mid new b r.1)
+  module _ (table base : Parts) (old mid new : Past) (b : IsBase rules base old mid) where
+    read_err_by : (e : ReadErr) → ReadErrOf rules base e mid new → ReadErrLeaves rules e old new
+    read_err_by (Missing place) r = subst (λ (p : Parts). WasListed rules p (InState (λ d. is_named d.files p ≡ false)) old new) (sym r.0) (listed_then base (InState (λ d. is_named d.files base ≡ false)) old mid new b r.1)
     read_err_by (Damaged place at) r = absurd r
-    read_err_by (Unsupported place FileBytes) r = subst (λ (p : Parts). WasListed number Good Reached allows p (InState (λ d. IsLong p d.files)) old new) (sym r.0) (listed_then base (InState (λ d. IsLong base d.files)) old mid new b r.1)
+    read_err_by (Unsupported place FileBytes) r = subst (λ (p : Parts). WasListed rules p (InState (λ d. IsLong p d.files)) old new) (sym r.0) (listed_then base (InState (λ d. IsLong base d.files)) old mid new b r.1)
     read_err_by (Unsupported place VersionNumber) r = absurd r
     read_err_by (Unsupported place Codec) r = absurd r
     read_err_by (Unsupported place FormatVersion) r = absurd r
@@ -304,8 +311,8 @@ module _ (number : Parts → ℕ) (Good : GoodBy) (Reached : ReachBy) (allows : 
     read_err_by (StoreFault place) r = idle_after base old mid new b r
     read_err_by Memory r = idle_after base old mid new b r
 
-    pub opened_by : (r : Result Opened OpenErr) → ReadOpened number Good Reached allows base r mid new → OpenLeaves number Good Reached allows table r old new
-    opened_by (Ok o) (at_base, text) = subst (λ (p : Parts). IsOpened number Good Reached allows p o.text old new) (sym at_base) (opened base o.text old mid new b text)
+    pub opened_by : (r : Result Opened OpenErr) → ReadOpened rules base r mid new → OpenLeaves rules table r old new
+    opened_by (Ok o) (at_base, text) = subst (λ (p : Parts). IsOpened rules p o.text old new) (sym at_base) (opened base o.text old mid new b text)
     opened_by (Err (NoTable place)) r = absurd r
     opened_by (Err (LocationDiffers place location)) r = absurd r
     opened_by (Err (Read e)) r = read_err_by e r
@@ -316,11 +323,11 @@ module _ (number : Parts → ℕ) (Good : GoodBy) (Reached : ReachBy) (allows : 
   stage_of (Base base v) old now h = h.run.stage
   stage_of (Beyond place) old now h = tt
 
-  pub found_then : (table : Parts) (f : Found) (r : Result Opened OpenErr) (old mid new : Past) → Found_ (Ok f) old mid → FoundLeaves number Good Reached allows table f r mid new → OpenLeaves number Good Reached allows table r old new
+  pub found_then : (table : Parts) (f : Found) (r : Result Opened OpenErr) (old mid new : Past) → Found_ (Ok f) old mid → FoundLeaves rules table f r mid new → OpenLeaves rules table r old new
   found_then table NoVersion r old mid new a b =
-      subst (λ (x : Result Opened OpenErr). OpenLeaves number Good Reached allows table x old new) (sym b.0)
+      subst (λ (x : Result Opened OpenErr). OpenLeaves rules table x old new) (sym b.0)
       (refl, subst (λ (p : Past). RR (Exactly []) (InState (λ d. version number d.files ≡ 0)) old p) (sym b.1) a)
   found_then table (Base base v) r old mid new a b = opened_by table base old mid new a r b
   found_then table (Beyond place) r old mid new a b =
-      subst (λ (x : Result Opened OpenErr). OpenLeaves number Good Reached allows table x old new) (sym b.0)
+      subst (λ (x : Result Opened OpenErr). OpenLeaves rules table x old new) (sym b.0)
       (subst (λ (p : Past). RR (Exactly []) (InState (λ d. IsBeyond number place d.files)) old p) (sym b.1) a)

@@ -7,7 +7,7 @@ use Rattle.commit_history.specs.Versions.{ending}
 
 -- `v<n>.metadata.json`: a `v`, the number's decimal digits, and the ending
 abbrev pub version_name : ℕ → List ℕ
-version_name number = 118 ∷ decimal number ++ ending
+version_name number = codes "v" ++ (decimal number ++ ending)
 
 -- `<u>.metadata.json`: the identifier as a hyphenated UUID in lower case (RFC 9562, section 4), and the ending
 abbrev pub draft_name : ℕ → List ℕ

@@ -8,12 +8,12 @@ use Rattle.ice_store.specs.History.{Disk, replay}
 use Rattle.ice_store.specs.Calls.{Rose}
 use Rattle.ice_store.specs.declared.history.Held.{Held}
 use Rattle.ice_store.specs.declared.history.Past.{Past}
-use Rattle.ice_store.specs.declared.history.Step.{Step}
 use Rattle.ice_store.specs.declared.store.StoreErr.{StoreErr}
 use Rattle.ice_store.specs.declared.faults.What.TheVariants.{Codec, FormatVersion, Transform, SchemaSize, BlockBytes, ItemCount, FileBytes, GroupBytes, NoManifestList, VersionNumber, Sequence}
 use Rattle.ice_store.specs.declared.faults.ReadErr.{ReadErr}
 use Rattle.ice_store.specs.declared.faults.ReadErr.TheVariants.{Missing, Damaged, Unsupported, StoreFault, Memory}
-use Rattle.commit_history.specs.Tables.{GoodBy, ReachBy, version, sealed_at}
+use Rattle.commit_history.specs.Readings.{Rules}
+use Rattle.commit_history.specs.Tables.{version, sealed_at}
 use Rattle.commit_history.specs.Versions.{number_in, folder}
 use Rattle.commit_history.specs.Commits.{standing}
 use Rattle.commit_history.specs.Steady.{Steady}
@@ -73,10 +73,14 @@ FoundStage number NoVersion past = Unit {0}
 FoundStage number (Base base v) past = OpenStage number base (replay past)
 FoundStage number (Beyond place) past = Unit {0}
 
-module _ (number : Parts → ℕ) (Good : GoodBy) (Reached : ReachBy) (allows : Past → Step → Type 0) where
+module _ (rules : Rules) where
+  -- the number of a place
+  abbrev pub number : Parts → ℕ
+  number = rules.reading.number
+
   -- a call that added no step of ours
   abbrev pub Idle : (Past → Type 0) → Past → Past → Type 0
-  Idle = Ran number Good Reached allows (Exactly [])
+  Idle = Ran rules (Exactly [])
 
   -- what the listing found; in a steady history the base is sealed
   pub record IsBase (base : Parts) (old now : Past) : Type 0 where
@@ -85,8 +89,9 @@ module _ (number : Parts → ℕ) (Good : GoodBy) (Reached : ReachBy) (allows : 
     pub run : Idle (InState (OpenStage number base)) old now
     pub last : version number (replay now).files ≡ number base
     pub named : is_named (replay now).files base ≡ true
-    pub sealed : Steady number Good Reached (standing number old) → (bytes : List ℕ) × (sealed_at (replay now).files base ≡ Some bytes)
+    pub sealed : Steady rules.reading (standing number old) → (bytes : List ℕ) × (sealed_at (replay now).files base ≡ Some bytes)
 
+  -- what the search for the last version leaves, by its answer
   abbrev pub FindLeaves : Result Found StoreErr → Past → Past → Type 0
   FindLeaves (Ok NoVersion) = Idle (InState (λ d. version number d.files ≡ 0))
   FindLeaves (Ok (Base base v)) = IsBase base
@@ -100,6 +105,7 @@ module _ (number : Parts → ℕ) (Good : GoodBy) (Reached : ReachBy) (allows : 
     pub short : length text ≤ file_limit
     pub sealed : (bytes : List ℕ) → sealed_at (replay old).files base ≡ Some bytes → sealed_at (replay now).files base ≡ Some text
 
+  -- what the read of a version file leaves, by its answer
   abbrev pub ReadLeaves : Parts → Result VersionFile StoreErr → Past → Past → Type 0
   ReadLeaves base (Ok (Whole text)) = IsText base text
   ReadLeaves base (Ok TooLong) = Idle (InState (λ d. IsLong base d.files))
@@ -121,8 +127,9 @@ module _ (number : Parts → ℕ) (Good : GoodBy) (Reached : ReachBy) (allows : 
     pub listed : Listed base (InState (OpenStage number base)) old now
     pub file : FileIs base text (replay now).files
     pub short : length text ≤ file_limit
-    pub sealed : Steady number Good Reached (standing number old) → sealed_at (replay now).files base ≡ Some text
+    pub sealed : Steady rules.reading (standing number old) → sealed_at (replay now).files base ≡ Some text
 
+  -- what an opening leaves where the last version is not read, by the cause
   abbrev pub ReadErrLeaves : ReadErr → Past → Past → Type 0
   ReadErrLeaves (Missing place) = Listed place (InState (λ d. is_named d.files place ≡ false))
   ReadErrLeaves (Damaged place at) = λ old now. ⊥
@@ -140,6 +147,7 @@ module _ (number : Parts → ℕ) (Good : GoodBy) (Reached : ReachBy) (allows : 
   ReadErrLeaves (StoreFault place) = Idle Anything
   ReadErrLeaves Memory = Idle Anything
 
+  -- what the read of a base leaves where it does not read it, by the cause
   abbrev pub ReadErrOf : Parts → ReadErr → Past → Past → Type 0
   ReadErrOf base (Missing place) old now = (place ≡ base) × Idle (InState (λ d. is_named d.files base ≡ false)) old now
   ReadErrOf base (Damaged place at) old now = ⊥
@@ -189,11 +197,13 @@ FaultAt table (Unsupported place what) = Unit {0}
 FaultAt table (StoreFault place) = IsAskedFor table place
 FaultAt table Memory = Unit {0}
 
+-- so is that of an opening
 abbrev pub OpenFaultAt : Parts → OpenErr → Type 0
 OpenFaultAt table (NoTable place) = Unit {0}
 OpenFaultAt table (LocationDiffers place location) = Unit {0}
 OpenFaultAt table (Read e) = FaultAt table e
 
+-- a fault of the store comes only where the count of faults rose
 abbrev pub FaultRose : ReadErr → ℕ → ℕ → Type 0
 FaultRose (Missing place) before now = Unit {0}
 FaultRose (Damaged place at) before now = Unit {0}
@@ -201,7 +211,7 @@ FaultRose (Unsupported place what) before now = Unit {0}
 FaultRose (StoreFault place) before now = Rose before now
 FaultRose Memory before now = Unit {0}
 
--- a fault of the store comes only where the count rose
+-- and so in an opening
 abbrev pub OpenRose : Result Opened OpenErr → ℕ → ℕ → Type 0
 OpenRose (Ok o) before now = Unit {0}
 OpenRose (Err (NoTable place)) before now = Unit {0}

@@ -5,18 +5,19 @@ ghost use Rattle.ice_store.specs.Others.{WhereTold};
 ghost use Rattle.ice_store.specs.Since.{Since};
 ghost use Rattle.ice_store.specs.Calls.{HasCause};
 ghost use Rattle.commit_history.specs.Mannered.{IsMannered};
+ghost use Rattle.commit_history.specs.Readings.{rules_of};
 ghost use Rattle.commit_history.specs.Versions.{number_in, folder};
-ghost use Rattle.commit_publish.specs.Stages.{Narrow, NoReach, Creating, InState};
+ghost use Rattle.commit_publish.specs.Stages.{Creating, InState};
 ghost use Rattle.commit_publish.specs.Leaves.{Halts};
 ghost use Rattle.commit_versions.specs.Opening.{OpenStage, FindLeaves, ReadLeaves, ReadOpened, FoundStage, FoundLeaves, OpenLeaves, OpenRose, OpenFaultAt, version_file_of};
 ghost use Rattle.commit_versions.specs.Latest.{IsLatest, IsBaseNumber, IsFound, HasBaseNumber};
 
-use crate::types::{FILE_LIMIT, Found, Latest, OpenErr, Opened, VersionFile, VERSION_LIMIT};
-use ice_store::{Bytes, Listed, Manners, Place, ReadErr, Store, StoreErr, What};
-use std::alloc::Global;
-use commit_publish::Format;
 use crate::names::metadata_folder;
 use crate::numbers::version_number;
+use crate::types::{FILE_LIMIT, Found, Latest, OpenErr, Opened, VERSION_LIMIT, VersionFile};
+use commit_history::TableReading;
+use ice_store::{Bytes, Listed, Manners, Place, ReadErr, Store, StoreErr, What};
+use std::alloc::Global;
 
 // `Err` where an item's number is beyond the limit
 fn latest_of(table: &Place, listed: &[Listed]) -> Result<Latest, usize>
@@ -77,15 +78,15 @@ fn found_in(table: &Place, listed: &[Listed]) -> Result<Found, StoreErr>
 }
 
 /// Lists the metadata's folder `dir` and finds the last version.
-pub fn find_version<F: Format, M: Manners, S: Store<M>>(
+pub fn find_version<R: TableReading, M: Manners, S: Store<M>>(
     store: &mut S,
     table: &Place,
     dir: &Place,
 ) -> Result<Found, StoreErr>
-    requires mannered { IsMannered (number_in table.now) (Narrow F.reads table.now) NoReach (M.allows (S.manners store.old)) }
+    requires mannered { IsMannered (rules_of R.content table.now (M.allows (S.manners store.old))) }
     requires dir { dir.now ≡ table.now ++ folder ∷ [] }
     requires start { WhereTold (S.past store.old) (InState (λ d. Creating d.pending)) }
-    ensures told { Since (S.past store.old) (S.past store.new) (FindLeaves (number_in table.now) (Narrow F.reads table.now) NoReach (M.allows (S.manners store.old)) result) }
+    ensures told { Since (S.past store.old) (S.past store.new) (FindLeaves (rules_of R.content table.now (M.allows (S.manners store.old))) result) }
     ensures numbers { IfOk result (λ f. HasBaseNumber (number_in table.now) f) }
     ensures manners { S.manners store.new ≡ S.manners store.old }
     ensures cause { HasCause (S.faults store.old) (S.faults store.new) result }
@@ -108,15 +109,15 @@ fn sized(text: Bytes) -> VersionFile
 }
 
 /// Reads the version file at `place`.
-pub fn read_version<F: Format, M: Manners, S: Store<M>>(
+pub fn read_version<R: TableReading, M: Manners, S: Store<M>>(
     store: &mut S,
     table: &Place,
     place: &Place,
 ) -> Result<VersionFile, StoreErr>
-    requires mannered { IsMannered (number_in table.now) (Narrow F.reads table.now) NoReach (M.allows (S.manners store.old)) }
+    requires mannered { IsMannered (rules_of R.content table.now (M.allows (S.manners store.old))) }
     requires positive { 0 < number_in table.now place.now }
     requires start { WhereTold (S.past store.old) (InState (OpenStage (number_in table.now) place.now)) }
-    ensures told { Since (S.past store.old) (S.past store.new) (ReadLeaves (number_in table.now) (Narrow F.reads table.now) NoReach (M.allows (S.manners store.old)) place.now result) }
+    ensures told { Since (S.past store.old) (S.past store.new) (ReadLeaves (rules_of R.content table.now (M.allows (S.manners store.old))) place.now result) }
     ensures manners { S.manners store.new ≡ S.manners store.old }
     ensures cause { HasCause (S.faults store.old) (S.faults store.new) result }
     ensures halted { Halts result (S.halted store.old) (S.halted store.new) (S.past store.new) }
@@ -128,16 +129,16 @@ pub fn read_version<F: Format, M: Manners, S: Store<M>>(
     }
 }
 
-fn read_opened<F: Format, M: Manners, S: Store<M>>(
+fn read_opened<R: TableReading, M: Manners, S: Store<M>>(
     store: &mut S,
     table: &Place,
     place: Place,
     version: u64,
 ) -> Result<Opened, OpenErr>
-    requires mannered { IsMannered (number_in table.now) (Narrow F.reads table.now) NoReach (M.allows (S.manners store.old)) }
+    requires mannered { IsMannered (rules_of R.content table.now (M.allows (S.manners store.old))) }
     requires number { IsBaseNumber (number_in table.now) place version }
     requires start { WhereTold (S.past store.old) (InState (OpenStage (number_in table.now) place)) }
-    ensures told { Since (S.past store.old) (S.past store.new) (ReadOpened (number_in table.now) (Narrow F.reads table.now) NoReach (M.allows (S.manners store.old)) place result) }
+    ensures told { Since (S.past store.old) (S.past store.new) (ReadOpened (rules_of R.content table.now (M.allows (S.manners store.old))) place result) }
     ensures numbers { IfOk result (λ o. IsBaseNumber (number_in table.now) o.place o.version) }
     ensures manners { S.manners store.new ≡ S.manners store.old }
     ensures cause { OpenRose result (S.faults store.old) (S.faults store.new) }
@@ -145,7 +146,7 @@ fn read_opened<F: Format, M: Manners, S: Store<M>>(
     ensures later { S.faults store.old ≤ S.faults store.new }
     ensures halted { Halts result (S.halted store.old) (S.halted store.new) (S.past store.new) }
 {
-    match read_version::<F, M, S>(store, table, &place) {
+    match read_version::<R, M, S>(store, table, &place) {
         Ok(VersionFile::Whole(text)) => Ok(Opened {
             place,
             version,
@@ -162,17 +163,17 @@ fn read_opened<F: Format, M: Manners, S: Store<M>>(
 }
 
 // goes on from what the listing found; `name` is the table
-fn open_found<F: Format, M: Manners, S: Store<M>>(
+fn open_found<R: TableReading, M: Manners, S: Store<M>>(
     store: &mut S,
     table: &Place,
     name: Place,
     found: Found,
 ) -> Result<Opened, OpenErr>
-    requires mannered { IsMannered (number_in table.now) (Narrow F.reads table.now) NoReach (M.allows (S.manners store.old)) }
+    requires mannered { IsMannered (rules_of R.content table.now (M.allows (S.manners store.old))) }
     requires name { name ≡ table.now }
     requires number { HasBaseNumber (number_in table.now) found }
     requires start { WhereTold (S.past store.old) (FoundStage (number_in table.now) found) }
-    ensures told { Since (S.past store.old) (S.past store.new) (FoundLeaves (number_in table.now) (Narrow F.reads table.now) NoReach (M.allows (S.manners store.old)) table.now found result) }
+    ensures told { Since (S.past store.old) (S.past store.new) (FoundLeaves (rules_of R.content table.now (M.allows (S.manners store.old))) table.now found result) }
     ensures numbers { IfOk result (λ o. IsBaseNumber (number_in table.now) o.place o.version) }
     ensures manners { S.manners store.new ≡ S.manners store.old }
     ensures cause { OpenRose result (S.faults store.old) (S.faults store.new) }
@@ -181,7 +182,7 @@ fn open_found<F: Format, M: Manners, S: Store<M>>(
     ensures halted { Halts result (S.halted store.old) (S.halted store.new) (S.past store.new) }
 {
     match found {
-        Found::Base(place, version) => read_opened::<F, M, S>(store, table, place, version),
+        Found::Base(place, version) => read_opened::<R, M, S>(store, table, place, version),
         Found::NoVersion => Err(OpenErr::NoTable { place: name }),
         Found::Beyond(place) => Err(OpenErr::Read(ReadErr::Unsupported {
             place,
@@ -191,14 +192,14 @@ fn open_found<F: Format, M: Manners, S: Store<M>>(
 }
 
 /// Opens the last version of the table: one listing of its metadata's folder, and one read of one file.
-pub fn open_version<F: Format, M: Manners, S: Store<M>>(
+pub fn open_version<R: TableReading, M: Manners, S: Store<M>>(
     alloc: Global,
     store: &mut S,
     table: &Place,
 ) -> Result<Opened, OpenErr>
-    requires mannered { IsMannered (number_in table.now) (Narrow F.reads table.now) NoReach (M.allows (S.manners store.old)) }
+    requires mannered { IsMannered (rules_of R.content table.now (M.allows (S.manners store.old))) }
     requires start { WhereTold (S.past store.old) (InState (λ d. Creating d.pending)) }
-    ensures told { Since (S.past store.old) (S.past store.new) (OpenLeaves (number_in table.now) (Narrow F.reads table.now) NoReach (M.allows (S.manners store.old)) table.now result) }
+    ensures told { Since (S.past store.old) (S.past store.new) (OpenLeaves (rules_of R.content table.now (M.allows (S.manners store.old))) table.now result) }
     ensures numbers { IfOk result (λ o. IsBaseNumber (number_in table.now) o.place o.version) }
     ensures manners { S.manners store.new ≡ S.manners store.old }
     ensures cause { OpenRose result (S.faults store.old) (S.faults store.new) }
@@ -212,8 +213,8 @@ pub fn open_version<F: Format, M: Manners, S: Store<M>>(
     let Ok(dir) = metadata_folder(alloc, table) else {
         return Err(OpenErr::Read(ReadErr::Memory));
     };
-    match find_version::<F, M, S>(store, table, &dir) {
-        Ok(found) => open_found::<F, M, S>(store, table, name, found),
+    match find_version::<R, M, S>(store, table, &dir) {
+        Ok(found) => open_found::<R, M, S>(store, table, name, found),
         Err(StoreErr::Failed) => Err(OpenErr::Read(ReadErr::StoreFault { place: dir })),
         Err(StoreErr::Memory) => Err(OpenErr::Read(ReadErr::Memory)),
     }

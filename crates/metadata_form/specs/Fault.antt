@@ -19,6 +19,7 @@ use Rattle.metadata_form.specs.Fields.{member_fault, metadata_fault}
 abbrev pub fault_at : MetaCause → List ℕ → Fault
 fault_at cause on = record { path = from_root on; cause = cause }
 
+-- a number other than 2
 abbrev pub unless_2 : ℤ → Option ℤ
 unless_2 z = if int_eq z (pos 2) then None else Some z
 
@@ -26,6 +27,7 @@ unless_2 z = if int_eq z (pos 2) then None else Some z
 abbrev pub other_version : Data → Option ℤ
 other_version d = option_and_then unless_2 (option_and_then as_integer (option_and_then as_number (get (codes "format-version") d)))
 
+-- the fault of another format version
 abbrev pub version_fault : ℤ → Fault
 version_fault n = record { path = codes "format-version"; cause = Version n }
 

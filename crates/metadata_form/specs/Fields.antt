@@ -19,6 +19,7 @@ use Rattle.metadata_form.specs.Key.{name_of}
 use Rattle.metadata_form.specs.Path.{in_member, itself_unless}
 use Rattle.metadata_form.specs.Form.{int, misfit, array_fault, object_fault}
 
+-- the value is null
 abbrev pub is_null : Data → Bool
 is_null null = true
 is_null (boolean b) = false
@@ -40,9 +41,11 @@ found_fault NotNull fault (Some d) = fault d
 abbrev pub member_fault : Key → Need → (Data → Option (List ℕ)) → Data → Option (List ℕ)
 member_fault k need fault d = option_map (in_member (name_of k)) (found_fault need fault (get (name_of k) d))
 
+-- what is wrong with a field of an object
 unfoldable pub field_fault : Field → Data → Option (List ℕ)
 field_fault f d = member_fault f.key f.need (misfit f.form) d
 
+-- the first thing that is wrong with these fields of an object
 unfoldable pub fields_fault : List Field → Data → Option (List ℕ)
 fields_fault [] d = None
 fields_fault (f ∷ fs) d = option_or (field_fault f d) (fields_fault fs d)
@@ -53,6 +56,7 @@ record_fault fs d = if is_some (as_object d) then fields_fault fs d else Some []
 
 -- ---- the fields of each kind of object, in byte order of their keys
 
+-- a field: its key, whether it may lack, and its form
 abbrev pub field : Key → Need → Form → Field
 field k n f = record { key = k; need = n; form = f }
 
@@ -119,15 +123,17 @@ partition_statistics_fields =
 unfoldable pub statistics_fault : Data → Option (List ℕ)
 statistics_fault d = if is_some (as_object d) then option_or (member_fault BlobMetadata Required (array_fault (record_fault blob_fields)) d) (fields_fault statistics_fields d) else Some []
 
--- an item of the list has this id in the field k
+-- what stands in a field is this id
 abbrev pub is_id : ℤ → Option ℤ → Bool
 is_id id None = false
 is_id id (Some z) = int_eq z id
 
+-- an item of the list has this id in the field k
 abbrev pub has_id : List ℕ → ℤ → List Data → Bool
 has_id k id [] = false
 has_id k id (d ∷ ds) = is_id id (option_and_then signed (get k d)) || has_id k id ds
 
+-- there is a number, and an item of the list has it in the field k
 abbrev pub names_item : List ℕ → List Data → Option ℤ → Bool
 names_item k ds None = false
 names_item k ds (Some id) = has_id k id ds
@@ -136,6 +142,7 @@ names_item k ds (Some id) = has_id k id ds
 abbrev pub name_fault : List ℕ → List Data → Data → Option (List ℕ)
 name_fault k ds d = itself_unless (names_item k ds (int d))
 
+-- where a rule of table metadata isn't met
 unfoldable pub rule_fault : Rule → Data → Option (List ℕ)
 rule_fault (rule.Holds f) d = field_fault f d
 rule_fault rule.CurrentSchema d = member_fault CurrentSchemaId Required (name_fault (codes "schema-id") (items_at (codes "schemas") d)) d
@@ -147,6 +154,7 @@ rule_fault rule.SnapshotLog d = member_fault SnapshotLog Optional (array_fault (
 rule_fault rule.Snapshots d = member_fault Snapshots Optional (array_fault (record_fault snapshot_fields)) d
 rule_fault rule.Statistics d = member_fault Statistics Optional (array_fault statistics_fault) d
 
+-- the first place where one of these rules isn't met
 unfoldable pub rules_fault : List Rule → Data → Option (List ℕ)
 rules_fault [] d = None
 rules_fault (r ∷ rs) d = option_or (rule_fault r d) (rules_fault rs d)

@@ -13,23 +13,26 @@ use Rattle.metadata_form.specs.Path.{in_member, in_item, itself_unless}
 
 -- ---- numbers
 
+-- a number from -2^31 to 2^31 - 1
 abbrev pub is_int_number : ℤ → Bool
 is_int_number (pos n) = nat_lt n (2 ^ 31)
 is_int_number (negsuc n) = nat_lt n (2 ^ 31)
 
--- the whole number of 32 bits that a value is
+-- a number that fits 32 bits
 abbrev pub int_if : Option ℤ → Option ℤ
 int_if None = None
 int_if (Some z) = if is_int_number z then Some z else None
 
+-- the whole number of 32 bits that a value is
 abbrev pub int : Data → Option ℤ
 int d = int_if (signed d)
 
+-- a number from 0 on
 abbrev pub is_natural : ℤ → Bool
 is_natural (pos n) = true
 is_natural (negsuc n) = false
 
--- a number that isn't negative
+-- there is a number, and it isn't negative
 abbrev pub is_natural_in : Option ℤ → Bool
 is_natural_in None = false
 is_natural_in (Some z) = is_natural z
@@ -44,6 +47,7 @@ unless_minus_one z = if int_eq z (negsuc 0) then None else Some z
 unfoldable pub is_uuid : List ℕ → Bool
 is_uuid text = is_some (parsed text)
 
+-- there is a text, and it reads as an identifier
 abbrev pub is_uuid_in : Option (List ℕ) → Bool
 is_uuid_in None = false
 is_uuid_in (Some text) = is_uuid text
@@ -52,9 +56,11 @@ is_uuid_in (Some text) = is_uuid text
 unfoldable pub is_branch_text : List ℕ → Bool
 is_branch_text text = str_eq_ignore_ascii_case text (codes "branch")
 
+-- `branch` or `tag`, in any letter case
 unfoldable pub is_ref_type : List ℕ → Bool
 is_ref_type text = is_branch_text text || str_eq_ignore_ascii_case text (codes "tag")
 
+-- there is a text, and it is the type of a ref
 abbrev pub is_ref_type_in : Option (List ℕ) → Bool
 is_ref_type_in None = false
 is_ref_type_in (Some text) = is_ref_type text
@@ -66,6 +72,7 @@ abbrev pub items_fault : (Data → Option (List ℕ)) → ℕ → List Data → 
 items_fault fault i [] = None
 items_fault fault i (d ∷ ds) = option_or (option_map (in_item i) (fault d)) (items_fault fault (suc i) ds)
 
+-- there is an array, of such items
 abbrev pub array_fault_in : (Data → Option (List ℕ)) → Option Items → Option (List ℕ)
 array_fault_in fault None = Some []
 array_fault_in fault (Some ds) = items_fault fault 0 (list_of ds)
@@ -74,10 +81,12 @@ array_fault_in fault (Some ds) = items_fault fault 0 (list_of ds)
 abbrev pub array_fault : (Data → Option (List ℕ)) → Data → Option (List ℕ)
 array_fault fault d = array_fault_in fault (as_array d)
 
+-- the first fault of the members
 abbrev pub members_fault : (Data → Option (List ℕ)) → Members → Option (List ℕ)
 members_fault fault no_members = None
 members_fault fault (member k d ms) = option_or (option_map (in_member k) (fault d)) (members_fault fault ms)
 
+-- there is an object, of such members
 abbrev pub object_fault_in : (Data → Option (List ℕ)) → Option Members → Option (List ℕ)
 object_fault_in fault None = Some []
 object_fault_in fault (Some ms) = members_fault fault ms
@@ -86,12 +95,15 @@ object_fault_in fault (Some ms) = members_fault fault ms
 abbrev pub object_fault : (Data → Option (List ℕ)) → Data → Option (List ℕ)
 object_fault fault d = object_fault_in fault (as_object d)
 
+-- a text
 abbrev pub text_fault : Data → Option (List ℕ)
 text_fault d = itself_unless (is_some (as_str d))
 
+-- a whole number of 32 bits
 abbrev pub int_fault : Data → Option (List ℕ)
 int_fault d = itself_unless (is_some (int d))
 
+-- an object
 abbrev pub is_object_fault : Data → Option (List ℕ)
 is_object_fault d = itself_unless (is_some (as_object d))
 
@@ -106,6 +118,7 @@ summary_fault d = if is_some (get (codes "operation") d) then object_fault text_
 
 -- ---- the first place in a value that isn't of its form
 
+-- what is wrong with a value of this form
 unfoldable pub misfit : Form → Data → Option (List ℕ)
 misfit Text d = text_fault d
 misfit Uuid d = itself_unless (is_uuid_in (as_str d))

@@ -3,6 +3,7 @@ use Rattle.std.specs.Prelude.{ℕ, List, codes}
 use Rattle.metadata_form.specs.declared.key.Key.{Key}
 use Rattle.metadata_form.specs.declared.key.Key.TheVariants.{BlobMetadata, CurrentSchemaId, CurrentSnapshotId, DefaultSortOrderId, DefaultSpecId, Fields, FileFooterSizeInBytes, FileSizeInBytes, FormatVersion, KeyMetadata, LastColumnId, LastPartitionId, LastSequenceNumber, LastUpdatedMs, Location, ManifestList, MaxRefAgeMs, MaxSnapshotAgeMs, MetadataFile, MetadataLog, MinSnapshotsToKeep, ParentSnapshotId, PartitionSpecs, PartitionStatistics, Properties, Refs, SchemaId, Schemas, SequenceNumber, SnapshotId, SnapshotLog, Snapshots, SortOrders, Statistics, StatisticsPath, Summary, TableUuid, TimestampMs, Kind}
 
+-- the key as it is written
 abbrev pub name_of : Key → List ℕ
 name_of BlobMetadata = codes "blob-metadata"
 name_of CurrentSchemaId = codes "current-schema-id"

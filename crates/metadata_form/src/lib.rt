@@ -10,8 +10,6 @@ mod form;
 mod key;
 mod path;
 mod rules;
-#[cfg(test)]
-mod tests;
 mod tree;
 
 pub use fault::{Fault, MetaCause};

@@ -3,7 +3,7 @@ ghost use Rattle.std.specs.Prelude.{◌≡◌, ◌++◌, ◌<◌, ◌∷◌, [],
 ghost use Rattle.serde_json.specs.View.{view};
 ghost use Rattle.metadata_json.specs.Edits.{set, object_at, last, add, add_within};
 
-use crate::fields::{items, members};
+use crate::taken::{Taken, items_or_none, take};
 use serde_json::{Map, Value};
 use std::alloc::{AllocError, Global};
 
@@ -41,9 +41,10 @@ pub fn object_at(alloc: Global, tree: &Value, key: &str) -> Result<Value, AllocE
 pub fn add(alloc: Global, tree: Value, key: &str, item: Value) -> Result<Value, AllocError>
     ensures { IfOk result (λ v. view v ≡ add key.now (view item) (view tree)) }
 {
-    let mut list = copies(alloc, items(&tree, key))?;
+    let Taken { rest, value } = take(alloc, tree, key)?;
+    let mut list = items_or_none(alloc, value);
     list.push(item)?;
-    set(alloc, tree, key, Value::Array(list))
+    set(alloc, rest, key, Value::Array(list))
 }
 
 /// Adds an item to the array in a field, which is made where it lacks, and keeps the last `most` items.
@@ -58,28 +59,19 @@ pub fn add_within(
     requires { 0 < most }
     ensures { IfOk result (λ v. view v ≡ add_within most key.now (view item) (view tree)) }
 {
-    let list = last_of(alloc, items(&tree, key), item, most)?;
-    set(alloc, tree, key, Value::Array(list))
+    let Taken { rest, value } = take(alloc, tree, key)?;
+    let list = last_of(items_or_none(alloc, value), item, most)?;
+    set(alloc, rest, key, Value::Array(list))
 }
 
 // The last items of a list that has one more at its end.
-fn last_of(alloc: Global, items: &[Value], item: Value, most: u64) -> Result<Vec<Value>, AllocError>
+fn last_of(items: Vec<Value>, item: Value, most: u64) -> Result<Vec<Value>, AllocError>
     requires { 0 < most }
-    ensures { IfOk result (λ v. map view v.items ≡ last most (map view items.now ++ view item ∷ [])) }
+    ensures { IfOk result (λ v. map view v.items ≡ last most (map view items.items ++ view item ∷ [])) }
 {
+    let mut items = items;
     let left_out = (items.len() as u64).saturating_sub(most - 1);
-    let (_, kept) = items.split_at(left_out as usize);
-    let mut list = copies(alloc, kept)?;
+    let mut list = items.split_off(left_out as usize)?;
     list.push(item)?;
-    Ok(list)
-}
-
-fn copies(alloc: Global, items: &[Value]) -> Result<Vec<Value>, AllocError>
-    ensures { IfOk result (λ v. map view v.items ≡ map view items.now) }
-{
-    let mut list = Vec::with_capacity(alloc, items.len())?;
-    for item in items {
-        list.push(item.clone()?)?;
-    }
     Ok(list)
 }

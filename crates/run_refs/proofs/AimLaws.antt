@@ -5,11 +5,11 @@ use Rattle.serde_json.specs.Data.{Data}
 use Rattle.serde_json.specs.Find.{get, get_member, as_str}
 use Rattle.metadata_json.specs.Fields.{members_in}
 use Rattle.table_metadata.specs.Edits.{with_ref, version_limit, limit_in}
-use Rattle.table_metadata.specs.View.{snapshots_of, current_of, property_of, text_in}
+use Rattle.metadata_view.specs.View.{snapshots_of, current_of, property_of, text_in}
 use Rattle.table_metadata.proofs.EditLaws.{stays-with_ref}
 use Rattle.commit_protocol.specs.Attempts.{StaysTable}
-use Rattle.table_metadata.specs.Walk.{snapshot_with, next_snapshot, IsWalk, IsAncestor}
-use Rattle.table_metadata.specs.declared.types.Snapshot.{Snapshot}
+use Rattle.metadata_view.specs.Walk.{snapshot_with, next_snapshot, IsWalk, IsAncestor}
+use Rattle.metadata_view.specs.declared.types.Snapshot.{Snapshot}
 use Rattle.commit_protocol.specs.declared.errors.Refusal.{Refusal}
 use Rattle.commit_protocol.specs.declared.errors.Refusal.TheVariants.{NotAncestor}
 use Rattle.run_refs.specs.declared.goal.Goal.{Goal}

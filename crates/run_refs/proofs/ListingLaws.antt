@@ -1,11 +1,11 @@
 -- Each table has one listing.
 use Rattle.std.proofs.Common.{◌≡◌, ℤ, List, [], map, Option, Some, None, Ok, Err, sym, ap, ◌∙◌, subst}
 use Rattle.serde_json.specs.Data.{Data}
-use Rattle.table_metadata.specs.View.{snapshots_of, current_of}
-use Rattle.table_metadata.specs.Walk.{next_snapshot}
+use Rattle.metadata_view.specs.View.{snapshots_of, current_of}
+use Rattle.metadata_view.specs.Walk.{next_snapshot}
 use Rattle.table_metadata.specs.declared.cause.EditErr.TheVariants.{UnknownSnapshot}
-use Rattle.table_metadata.specs.declared.types.Snapshot.{Snapshot}
-use Rattle.table_metadata.proofs.WalkLaws.{one_walk}
+use Rattle.metadata_view.specs.declared.types.Snapshot.{Snapshot}
+use Rattle.metadata_view.proofs.WalkLaws.{one_walk}
 use Rattle.run_refs.specs.declared.ancestors.Ancestor.{Ancestor}
 use Rattle.run_refs.specs.Ancestors.{IsListing, Lists, row_of}
 

@@ -13,13 +13,13 @@ use Rattle.metadata_json.specs.Fields.{members_in, members_at, signed_at}
 use Rattle.metadata_json.specs.Edits.{set, object_at}
 use Rattle.metadata_json.proofs.Laws.{members, get-members, members-set, members-object_at}
 use Rattle.metadata_form.specs.Path.{in_member}
-use Rattle.table_metadata.specs.Fault.{fault_of}
-use Rattle.table_metadata.specs.Links.{is_main, main_agrees, current_fault, is_whole_ref, first_broken, refs_fault, ref_fault}
-use Rattle.table_metadata.specs.View.{ref_of, ref_with, refs_in, refs_of, refs_tree, with_main, main_ref, new_branch, snapshots_of, current_of}
-use Rattle.table_metadata.specs.Walk.{snapshot_with}
-use Rattle.table_metadata.specs.declared.types.Snapshot.{Snapshot}
-use Rattle.table_metadata.proofs.FormLaws.{no-parts, no-within}
-use Rattle.table_metadata.proofs.SoundLaws.{sound}
+use Rattle.metadata_view.specs.Fault.{fault_of}
+use Rattle.metadata_view.specs.Links.{is_main, main_agrees, current_fault, is_whole_ref, first_broken, refs_fault, ref_fault}
+use Rattle.metadata_view.specs.View.{ref_of, ref_with, refs_in, refs_of, refs_tree, with_main, main_ref, new_branch, snapshots_of, current_of}
+use Rattle.metadata_view.specs.Walk.{snapshot_with}
+use Rattle.metadata_view.specs.declared.types.Snapshot.{Snapshot}
+use Rattle.metadata_form.proofs.FormLaws.{no-parts, no-within}
+use Rattle.metadata_view.proofs.SoundLaws.{sound}
 use Rattle.run_refs.specs.Refs.{ref_at, id_of}
 use Rattle.run_refs.specs.Laws.{HasLongCurrent}
 

@@ -1,11 +1,11 @@
 -- The listing of a snapshot's ancestors (Iceberg table specification, Snapshots: `parent-snapshot-id`, `timestamp-ms`).
 use Rattle.std.specs.Prelude.{◌≡◌, ℕ, ℤ, List, map, Option, Some, None, IsSome, Result, Ok, Err}
 use Rattle.serde_json.specs.Data.{Data}
-use Rattle.table_metadata.specs.View.{snapshots_of, current_of}
-use Rattle.table_metadata.specs.Walk.{snapshot_with, IsWalk}
+use Rattle.metadata_view.specs.View.{snapshots_of, current_of}
+use Rattle.metadata_view.specs.Walk.{snapshot_with, IsWalk}
 use Rattle.table_metadata.specs.declared.cause.EditErr.{EditErr}
 use Rattle.table_metadata.specs.declared.cause.EditErr.TheVariants.{UnknownSnapshot, Memory}
-use Rattle.table_metadata.specs.declared.types.Snapshot.{Snapshot}
+use Rattle.metadata_view.specs.declared.types.Snapshot.{Snapshot}
 use Rattle.run_refs.specs.declared.ancestors.Ancestor.{Ancestor}
 
 -- a snapshot's moment

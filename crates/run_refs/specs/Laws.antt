@@ -2,9 +2,9 @@
 use Rattle.std.specs.Prelude.{◌≡◌, ℕ, ℤ, List, codes, Option, Some, None, IsSome, Ok, Err}
 use Rattle.serde_json.specs.Data.{Data}
 use Rattle.serde_json.specs.Find.{as_i64, of_integer}
-use Rattle.table_metadata.specs.Fault.{fault_of}
-use Rattle.table_metadata.specs.View.{snapshots_of, current_of}
-use Rattle.table_metadata.specs.Walk.{snapshot_with}
+use Rattle.metadata_view.specs.Fault.{fault_of}
+use Rattle.metadata_view.specs.View.{snapshots_of, current_of}
+use Rattle.metadata_view.specs.Walk.{snapshot_with}
 use Rattle.table_metadata.specs.declared.cause.EditErr.TheVariants.{UnknownSnapshot}
 use Rattle.commit_protocol.specs.declared.errors.Refusal.{Refusal}
 use Rattle.commit_protocol.specs.declared.errors.AttemptErr.TheVariants.{Refused}

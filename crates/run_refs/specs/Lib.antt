@@ -1,4 +1,5 @@
 pub mod Ancestors
 pub mod Laws
+pub mod Meanings
 pub mod Moves
 pub mod Refs

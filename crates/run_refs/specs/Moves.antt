@@ -2,9 +2,9 @@
 use Rattle.std.specs.Prelude.{◌≡◌, ◌≢◌, ◌⊎◌, ℕ, ℤ, List, Option, Some, None, Result, Ok, Err}
 use Rattle.serde_json.specs.Data.{Data}
 use Rattle.table_metadata.specs.Edits.{with_ref}
-use Rattle.table_metadata.specs.View.{snapshots_of, current_of}
-use Rattle.table_metadata.specs.Walk.{snapshot_with, IsAncestor}
-use Rattle.table_metadata.specs.declared.types.Snapshot.{Snapshot}
+use Rattle.metadata_view.specs.View.{snapshots_of, current_of}
+use Rattle.metadata_view.specs.Walk.{snapshot_with, IsAncestor}
+use Rattle.metadata_view.specs.declared.types.Snapshot.{Snapshot}
 use Rattle.ice_store.specs.declared.faults.ReadErr.TheVariants.{Missing, Damaged, Unsupported, StoreFault, Memory}
 use Rattle.commit_protocol.specs.declared.errors.Refusal.{Refusal}
 use Rattle.commit_protocol.specs.declared.errors.Refusal.TheVariants.{UnknownSnapshot, UnknownRef, NotAncestor}

@@ -1,11 +1,12 @@
 -- Where the refs of a table are (Iceberg table specification, "Snapshot References").
 use Rattle.std.specs.Prelude.{ℕ, ℤ, List, codes, Option, Some, None, option_map, if◌then◌else◌}
 use Rattle.serde_json.specs.Data.{Data}
-use Rattle.table_metadata.specs.View.{refs_of, ref_with}
-use Rattle.table_metadata.specs.declared.types.Ref.{Ref}
+use Rattle.metadata_view.specs.View.{refs_of, ref_with}
+use Rattle.metadata_view.specs.declared.types.Ref.{Ref}
 use Rattle.run_refs.specs.declared.goal.Goal.{Goal}
 use Rattle.run_refs.specs.declared.goal.Goal.TheVariants.{Rollback, SetCurrent, SetCurrentTo, FastForward}
 
+-- where a ref is
 abbrev pub id_of : Option Ref → Option ℤ
 id_of = option_map (λ (r : Ref). r.id)
 
@@ -13,6 +14,7 @@ id_of = option_map (λ (r : Ref). r.id)
 abbrev pub ref_at : List ℕ → Data → Option ℤ
 ref_at name tree = id_of (ref_with (refs_of tree) name)
 
+-- where it is, if it is a branch
 abbrev pub branch_id : Option Ref → Option ℤ
 branch_id None = None
 branch_id (Some r) = if r.is_branch then Some r.id else None

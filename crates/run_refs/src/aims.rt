@@ -1,8 +1,8 @@
 //! Where a ref is to go.
 ghost use Rattle.std.specs.Prelude.{◌≡◌, IfOk, OnOk, IsUtf8};
 ghost use Rattle.serde_json.specs.View.{view};
-ghost use Rattle.table_metadata.specs.View.{snapshots_of, current_of};
-ghost use Rattle.table_metadata.specs.Walk.{snapshot_with};
+ghost use Rattle.metadata_view.specs.View.{snapshots_of, current_of};
+ghost use Rattle.metadata_view.specs.Walk.{snapshot_with};
 ghost use Rattle.run_refs.specs.Moves.{Aims, AimsIfAncestor, AimsBack, AimsAt, AimsTo, AimsForward};
 ghost use Rattle.run_refs.specs.Refs.{goal_ref, ref_at, branch_at};
 

@@ -1,8 +1,8 @@
 //! The listing of a snapshot's ancestors.
 ghost use Rattle.std.specs.Prelude.{◌≡◌, Some, IfOk};
 ghost use Rattle.serde_json.specs.View.{view};
-ghost use Rattle.table_metadata.specs.View.{snapshots_of};
-ghost use Rattle.table_metadata.specs.Walk.{snapshot_with};
+ghost use Rattle.metadata_view.specs.View.{snapshots_of};
+ghost use Rattle.metadata_view.specs.Walk.{snapshot_with};
 ghost use Rattle.run_refs.specs.Ancestors.{IsListing, Lists, moment_in};
 
 use ice_store::Items;

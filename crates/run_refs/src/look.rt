@@ -2,7 +2,7 @@
 ghost use Rattle.std.specs.Prelude.{◌≡◌, false, None, IsTrue, IsUtf8, OnSome, is_some};
 ghost use Rattle.serde_json.specs.Find.{get_member};
 ghost use Rattle.serde_json.specs.View.{view, members_view};
-ghost use Rattle.table_metadata.specs.View.{refs_of, ref_with};
+ghost use Rattle.metadata_view.specs.View.{refs_of, ref_with};
 ghost use Rattle.run_refs.specs.Refs.{ref_at, branch_at};
 
 use ice_store::Text;

@@ -1,19 +1,16 @@
 //! The change that moves a ref.
-ghost use Rattle.std.specs.Prelude.{◌≡◌, ◌<◌, ◌^◌, ◌↔◌, pos, IfOk, IfErr, IsSome, IsTrue, IsUtf8};
+ghost use Rattle.std.specs.Prelude.{◌≡◌, ◌<◌, ◌^◌, ◌↔◌, pos, IfOk, IfErr, IsTrue};
 ghost use Rattle.serde_json.specs.View.{view};
-ghost use Rattle.table_metadata.specs.Edits.{with_ref};
-ghost use Rattle.table_metadata.specs.View.{snapshots_of};
-ghost use Rattle.table_metadata.specs.Walk.{snapshot_with};
-ghost use Rattle.commit_protocol.specs.Attempts.{MakesOf};
-ghost use Rattle.run_refs.specs.Moves.{Moves, IsThere, RefusesMove, HasSeen};
+ghost use Rattle.run_refs.specs.Meanings.{IsMoved, moves_of};
+ghost use Rattle.run_refs.specs.Moves.{RefusesMove, HasSeen};
 
 use crate::aims::aim;
 use crate::goal::{Goal, ref_name};
 use crate::look::ref_at;
-use commit_protocol::{At, AttemptErr, Built, Change, Log};
+use commit_protocol::{AttemptErr, Built, Change, Log};
 use ice_store::{Ids, Manners, Place, Store, Text};
-use std::alloc::{AllocError, Global};
-use table_metadata::{EditErr, Meta};
+use std::alloc::Global;
+use table_metadata::Meta;
 
 /// A move of a ref, at the moment `now`.
 #[derive(Debug, Drop)]
@@ -55,13 +52,7 @@ pub(crate) struct Moved {
 }
 
 impl<M: Manners> Change<M> for RefMove {
-    ghost successor = { λ r a b. Moves r.goal r.now a b };
-
-    ghost same = { λ r a. IsThere r.goal a };
-
-    ghost refuses = { λ r a e. RefusesMove r.goal a e };
-
-    ghost seen = { λ r s a. (s.goal ≡ r.goal) × HasSeen r.goal a s.previous s.id };
+    ghost meanings = { λ r s. moves_of r.goal r.now (λ tree. (s.goal ≡ r.goal) × HasSeen r.goal tree s.previous s.id) };
 
     fn attempt<S: Store<M>, I: Ids>(
         &mut self,
@@ -69,11 +60,12 @@ impl<M: Manners> Change<M> for RefMove {
         _store: &mut S,
         _ids: &mut I,
         _table: &Place,
-        base: &At,
+        _base: &Place,
+        meta: Meta,
         _now: u64,
         _log: &mut Log,
     ) -> Result<Built, AttemptErr> {
-        let moved = move_on(alloc, &base.meta, &self.goal, self.now)?;
+        let moved = move_on(alloc, meta, &self.goal, self.now)?;
         self.previous = moved.previous;
         self.id = moved.id;
         Ok(moved.built)
@@ -83,21 +75,21 @@ impl<M: Manners> Change<M> for RefMove {
 /// The move on this base.
 pub(crate) fn move_on(
     alloc: Global,
-    meta: &Meta,
+    meta: Meta,
     goal: &Goal,
     now: u64,
 ) -> Result<Moved, AttemptErr>
     requires { now < 2 ^ 63 }
-    ensures built { IfOk result (λ moved. MakesOf (Moves goal.now now) (IsThere goal.now) (view meta.now) moved.built) }
-    ensures seen { IfOk result (λ moved. HasSeen goal.now (view meta.now) moved.previous moved.id) }
-    ensures refused { IfErr result (RefusesMove goal.now (view meta.now)) }
+    ensures built { IfOk result (λ moved. IsMoved goal.now now (view meta) moved.built) }
+    ensures seen { IfOk result (λ moved. HasSeen goal.now (view meta) moved.previous moved.id) }
+    ensures refused { IfErr result (RefusesMove goal.now (view meta)) }
 {
-    let id = match aim(meta, goal)? {
+    let id = match aim(&meta, goal)? {
         Ok(id) => id,
         Err(refusal) => return Err(AttemptErr::Refused(refusal)),
     };
     let name = ref_name(alloc, goal)?;
-    let previous = ref_at(meta, &name);
+    let previous = ref_at(&meta, &name);
     if is_at(previous, id) {
         return Ok(Moved {
             previous,
@@ -105,7 +97,7 @@ pub(crate) fn move_on(
             built: Built::Same,
         });
     }
-    let built = with_ref(alloc, meta, &name, id, now)?;
+    let built = meta.into_with_ref(alloc, &name, id, now)?;
     Ok(Moved {
         previous,
         id,
@@ -117,18 +109,4 @@ fn is_at(at: Option<i64>, id: i64) -> bool
     ensures { IsTrue result ↔ at ≡ Some id }
 {
     at == Some(id)
-}
-
-// the metadata with the ref at a snapshot of the table
-fn with_ref(alloc: Global, meta: &Meta, name: &Text, id: i64, now: u64) -> Result<Meta, AllocError>
-    requires utf8 { IsUtf8 name.now }
-    requires known { IsSome (snapshot_with (snapshots_of (view meta.now)) id) }
-    requires moment { now < 2 ^ 63 }
-    ensures { IfOk result (λ built. view built ≡ with_ref name.now id now (view meta.now)) }
-{
-    match meta.with_ref(alloc, name, id, now) {
-        Ok(built) => Ok(built),
-        Err(EditErr::UnknownSnapshot { .. }) => unreachable!(),
-        Err(EditErr::Memory) => Err(AllocError),
-    }
 }

@@ -130,7 +130,7 @@ fn shown_error(alloc: Global, e: &AttemptErr) -> Result<String, AllocError> {
     }
 }
 
-fn shown_change(alloc: Global, meta: &Meta, change: &RefMove) -> Result<String, AllocError> {
+fn shown_change(alloc: Global, meta: Meta, change: &RefMove) -> Result<String, AllocError> {
     match move_on(alloc, meta, &change.goal, change.now) {
         Ok(moved) => shown_move(alloc, &moved),
         Err(e) => shown_error(alloc, &e),
@@ -144,7 +144,7 @@ fn change_of(alloc: Global, words: &str) -> Result<RefMove, AllocError> {
 fn outcome(alloc: Global, case: &str, words: &str) -> Result<String, Fail> {
     let meta = table(alloc, case)?;
     let change = change_of(alloc, words)?;
-    Ok(shown_change(alloc, &meta, &change)?)
+    Ok(shown_change(alloc, meta, &change)?)
 }
 
 // Each line has a case, the goal, and what comes of it.

@@ -1,8 +1,10 @@
 //! Calls of the file system on single paths, and why one didn't do its work.
+use crate::whole::fill;
 use ice_store::{Bytes, Place};
 use std::alloc::{AllocError, Global};
 use std::fs::{File, Metadata};
-use std::io::{ErrorKind, Read, Seek, SeekFrom, Write};
+use std::io::{ErrorKind, Seek, SeekFrom};
+use std::os::unix::fs::MetadataExt;
 use std::{fs, io};
 
 /// Why a call of the file system didn't do its work.
@@ -69,14 +71,31 @@ pub fn look_for_file(rt: &HostRuntime, path: &str) -> Result<Option<Metadata>, S
     }
 }
 
-/// The length in bytes of the regular file that stands at a path.
-pub fn size_of(rt: &HostRuntime, path: &str) -> Result<Option<u64>, SystemErr> {
-    Ok(look_for_file(rt, path)?.map(|found| found.len()))
-}
-
 /// Whether a regular file stands at a path.
 pub fn is_file(rt: &HostRuntime, path: &str) -> Result<bool, SystemErr> {
     Ok(look_for_file(rt, path)?.is_some())
+}
+
+/// Refuses an open file that isn't the one that was looked at, by device and inode.
+pub fn check_same(looked_at: &Metadata, open: &Metadata) -> Result<(), SystemErr> {
+    if looked_at.dev() == open.dev() && looked_at.ino() == open.ino() {
+        Ok(())
+    } else {
+        Err(SystemErr::Refused)
+    }
+}
+
+/// What an open file is.
+pub fn metadata_of(file: &File) -> Result<Metadata, SystemErr> {
+    match file.metadata() {
+        Ok(found) => Ok(found),
+        Err(_) => Err(SystemErr::Refused),
+    }
+}
+
+/// The length in bytes of the regular file that stands at a path.
+pub fn size_of(rt: &HostRuntime, path: &str) -> Result<Option<u64>, SystemErr> {
+    Ok(look_for_file(rt, path)?.map(|found| found.len()))
 }
 
 /// A part of a file, as `Store::read_at` gives it.
@@ -86,62 +105,37 @@ pub fn read_part(
     from: u64,
     len: usize,
 ) -> Result<Option<Bytes>, SystemErr> {
-    if !is_file(rt, path)? {
+    let Some(looked_at) = look_for_file(rt, path)? else {
         return Ok(None);
-    }
+    };
     match File::open(rt, path) {
-        Ok(mut file) => Ok(Some(part_of(rt.alloc(), &mut file, from, len)?)),
+        Ok(mut file) => {
+            let found = metadata_of(&file)?;
+            check_same(&looked_at, &found)?;
+            Ok(Some(part_of(rt.alloc(), &mut file, found.len(), from, len)?))
+        }
         Err(e) if is_absent(&e) => Ok(None),
         Err(_) => Err(SystemErr::Refused),
     }
 }
 
-fn part_of(alloc: Global, file: &mut File, from: u64, len: usize) -> Result<Bytes, SystemErr> {
-    let Ok(found) = file.metadata() else {
-        return Err(SystemErr::Refused);
-    };
+fn part_of(
+    alloc: Global,
+    file: &mut File,
+    size: u64,
+    from: u64,
+    len: usize,
+) -> Result<Bytes, SystemErr> {
     // what the file has behind the offset, so that a large `len` takes no more room
-    let left = found.len().saturating_sub(from);
+    let left = size.saturating_sub(from);
     let room = usize::try_from(left).unwrap_or(usize::MAX).min(len);
     let mut bytes = vec![in alloc; 0u8; room]?;
-    if room > 0 && file.seek(SeekFrom::Start(from)).is_err() {
+    if room > 0 && from > 0 && file.seek(SeekFrom::Start(from)).is_err() {
         return Err(SystemErr::Refused);
     }
-    let filled = fill(file, bytes.as_mut_slice())?;
-    bytes.truncate(filled);
+    match fill(file, bytes.as_mut_slice()) {
+        Ok(filled) => bytes.truncate(filled),
+        Err(_) => return Err(SystemErr::Refused),
+    }
     Ok(Bytes::new(bytes))
-}
-
-/// Reads until the buffer is full or the file ends; answers how many bytes were read.
-pub fn fill<R: Read>(file: &mut R, buffer: &mut [u8]) -> Result<usize, SystemErr> {
-    let mut filled = 0;
-    for _ in 0..u64::MAX {
-        if filled >= buffer.len() {
-            return Ok(filled);
-        }
-        match file.read(&mut buffer[filled..]) {
-            Ok(0) => return Ok(filled),
-            Ok(n) => filled += n,
-            Err(e) if e.kind() == ErrorKind::Interrupted => {}
-            Err(_) => return Err(SystemErr::Refused),
-        }
-    }
-    Err(SystemErr::Refused)
-}
-
-/// Writes all of the bytes, or fails after a prefix of them. A write that takes nothing is a failure.
-pub fn write_whole<W: Write>(out: &mut W, bytes: &[u8]) -> Result<(), SystemErr> {
-    let mut rest = bytes;
-    for _ in 0..u64::MAX {
-        if rest.is_empty() {
-            return Ok(());
-        }
-        match out.write(rest) {
-            Ok(0) => return Err(SystemErr::Refused),
-            Ok(n) => rest = &rest[n..],
-            Err(e) if e.kind() == ErrorKind::Interrupted => {}
-            Err(_) => return Err(SystemErr::Refused),
-        }
-    }
-    Err(SystemErr::Refused)
 }

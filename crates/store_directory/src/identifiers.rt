@@ -1,14 +1,19 @@
 //! Identifiers from a random number.
-ghost use Rattle.std.specs.Prelude.{None};
+ghost use Rattle.std.specs.Prelude.{◌≡◌, ◌+◌, ◌%◌, ◌^◌};
+ghost use Rattle.store_directory.specs.Identifiers.{identifiers_given};
+ghost use Rattle.ice_store.specs.Given.{Gives};
 
 use ice_store::Ids;
 use std::io;
 use std::random::RandomSource;
 
-/// Identifiers: one random number, and the numbers after it, modulo 2^128. It tells no list of them.
+/// Identifiers: one random number, and the numbers after it, modulo 2^128. It tells which it gave.
 #[derive(Debug, Drop)]
 pub struct RandomIds {
-    following: u128,
+    /// The identifier that is given first.
+    pub first: u128,
+    /// How many identifiers were given, up to the greatest 128-bit number.
+    pub count: u128,
 }
 
 impl RandomIds {
@@ -17,17 +22,21 @@ impl RandomIds {
         let mut bytes = [0u8; 16];
         rt.fill_bytes(&mut bytes)?;
         Ok(RandomIds {
-            following: u128::from_le_bytes(bytes),
+            first: u128::from_le_bytes(bytes),
+            count: 0,
         })
     }
 }
 
 impl Ids for RandomIds {
-    ghost given = { λ _. None };
+    ghost given = { λ ids. identifiers_given ids.first ids.count };
 
-    fn next(&mut self) -> u128 {
-        let id = self.following;
-        self.following = id.wrapping_add(1);
+    fn next(&mut self) -> u128
+        ensures given { Gives (identifiers_given self.old.first self.old.count) (identifiers_given self.new.first self.new.count) result }
+        ensures value { result ≡ (self.old.first + self.old.count) % 2 ^ 128 }
+    {
+        let id = self.first.wrapping_add(self.count);
+        self.count = self.count.saturating_add(1);
         id
     }
 }

@@ -1,20 +1,26 @@
 //! The regular files under a directory.
 use crate::calls::{SystemErr, cause_of, is_absent, look, path_of};
+use crate::changes::LOCK_NAME;
 use crate::clock::ms_since_1970;
 use ice_store::{Items, Listed, ListedList, Place, is_part};
 use std::fs;
 use std::fs::Metadata;
 
-/// All regular files under a place, at any depth, in place order, without the file at the path `hidden`. Symbolic links
+/// All regular files under a place where something stands, at any depth, in place order, without lock files. Symbolic links
 /// are neither followed nor listed, and what is gone before it is looked at isn't listed. A name that isn't UTF-8 is
 /// refused.
-pub fn files_under(rt: &HostRuntime, dir: &Place, hidden: &str) -> Result<ListedList, SystemErr> {
+pub fn files_under(
+    rt: &HostRuntime,
+    dir: &Place,
+    path: &str,
+    seen: &Metadata,
+) -> Result<ListedList, SystemErr> {
     let mut found = Vec::new(rt.alloc());
     let mut waiting = Vec::new(rt.alloc());
-    add_place(dir.copy()?, &mut waiting)?;
+    enter(rt, dir.copy()?, path, seen, &mut waiting, &mut found)?;
     for _ in 0..u64::MAX {
         match waiting.pop() {
-            Some(place) => visit(rt, place, hidden, &mut waiting, &mut found)?,
+            Some(place) => visit(rt, place, &mut waiting, &mut found)?,
             None => return Ok(in_place_order(found)),
         }
     }
@@ -26,21 +32,41 @@ fn in_place_order(mut found: Vec<Listed>) -> ListedList {
     Items::new(found)
 }
 
-// Lists the file at a place, or adds what the directory there holds to the places that wait.
 fn visit(
     rt: &HostRuntime,
     place: Place,
-    hidden: &str,
     waiting: &mut Vec<Place>,
     found: &mut Vec<Listed>,
 ) -> Result<(), SystemErr> {
     let path = path_of(&place)?;
     match look(rt, path.as_str())? {
-        Some(seen) if seen.is_dir() => add_children(rt, &place, path.as_str(), waiting),
-        Some(seen) if seen.is_file() && path.as_str() != hidden => {
-            add_listed(place, &seen, found)
-        }
-        _ => Ok(()),
+        Some(seen) => enter(rt, place, path.as_str(), &seen, waiting, found),
+        None => Ok(()),
+    }
+}
+
+// Lists the file at a place, or adds what the directory there holds to the places that wait.
+fn enter(
+    rt: &HostRuntime,
+    place: Place,
+    path: &str,
+    seen: &Metadata,
+    waiting: &mut Vec<Place>,
+    found: &mut Vec<Listed>,
+) -> Result<(), SystemErr> {
+    if seen.is_dir() {
+        return add_children(rt, &place, path, waiting);
+    }
+    if seen.is_file() && !is_lock(path) {
+        return add_listed(place, seen, found);
+    }
+    Ok(())
+}
+
+fn is_lock(path: &str) -> bool {
+    match path.rsplit_once('/') {
+        Some((_, name)) => name == LOCK_NAME,
+        None => false,
     }
 }
 

@@ -1,28 +1,34 @@
 //! A store over the real directory.
-ghost use Rattle.std.specs.Prelude.{◌≡◌, None, IfOk};
+ghost use Rattle.std.specs.Prelude.{◌≡◌, None};
 ghost use Rattle.ice_store.specs.Calls.{HasCause};
 
-use crate::calls::{SystemErr, path_of, read_part, size_of};
-use crate::changes::{
-    Directories, append_to, create_file, remove_file, rename_file, sync_directories, sync_file,
-};
+use crate::calls::{SystemErr, look, parent_of, path_of, read_part, size_of};
+use crate::changes::{create_file, remove_file, rename_file};
+use crate::directories::{Directories, check_links, note, sync_directories};
 use crate::listing::files_under;
-use ice_store::{Bytes, Gone, ListedList, Made, Manners, Moved, Place, Store, StoreErr};
+use crate::open_files::OpenFiles;
+use ice_store::{Bytes, Gone, Items, ListedList, Made, Manners, Moved, Place, Store, StoreErr};
 use std::collections::BTreeSet;
-
-/// The name of the lock file, below a table.
-const LOCK: &str = "/metadata/.upkeep.lock";
 
 /// The files of the real directory. It tells no past and counts its failures.
 ///
 /// A file is a regular file. Symbolic links and other things are neither listed nor touched: a call on a place where one
-/// stands fails. A name that isn't UTF-8 is a failure where it is listed or asked for.
+/// stands fails. So does a call on a place of which a directory is a symbolic link, below the directory around the one that
+/// is listed first: a run lists a table's `metadata` first, so these are the directories below the table. A name that isn't
+/// UTF-8 is a failure where it is listed or asked for.
+///
+/// Before the first rename or removal behind a listing, the names that were listed are made durable: nothing is built on,
+/// or removed under, a version that a crash may undo.
 #[derive(Drop)]
 pub struct DirStore<M> {
     rt: HostRuntime,
-    // the path of the lock file, which no listing tells of
-    lock: String,
+    open: OpenFiles,
+    // directories whose names changed, or were listed, and weren't made durable since
     changed: Directories,
+    // whether there was a listing since names were last made durable
+    is_listed: bool,
+    // the path of the directory around the one that was listed first
+    around: Option<String>,
     // a system that once failed to make something durable may say later that it did: no later sync is believed
     is_sync_lost: bool,
     /// What other writers may do.
@@ -31,35 +37,24 @@ pub struct DirStore<M> {
     pub faults: u64,
 }
 
-impl<M: Drop> DirStore<M> {
-    /// The store for the maintenance of this table, whose lock file is `metadata/.upkeep.lock` below it. Touches no file.
-    /// `Failed` comes where the table's place isn't UTF-8.
-    pub fn new(rt: HostRuntime, table: &Place, manners: M) -> Result<DirStore<M>, StoreErr>
-        ensures manners { IfOk result (λ s. s.manners ≡ manners) }
-        ensures faults { IfOk result (λ s. s.faults ≡ 0) }
+impl<M> DirStore<M> {
+    /// The store over the directories of this machine. A rename takes the lock file `.upkeep.lock` in the directory of its
+    /// new name. Touches no file and takes no memory.
+    pub fn new(rt: HostRuntime, manners: M) -> DirStore<M>
+        ensures manners { result.manners ≡ manners }
+        ensures faults { result.faults ≡ 0 }
     {
-        match lock_path(table) {
-            Ok(lock) => Ok(DirStore {
-                rt,
-                lock,
-                changed: BTreeSet::new(rt.alloc()),
-                is_sync_lost: false,
-                manners,
-                faults: 0,
-            }),
-            Err(SystemErr::Memory) => Err(StoreErr::Memory),
-            Err(_) => Err(StoreErr::Failed),
+        DirStore {
+            rt,
+            open: OpenFiles::new(rt.alloc()),
+            changed: BTreeSet::new(rt.alloc()),
+            is_listed: false,
+            around: None,
+            is_sync_lost: false,
+            manners,
+            faults: 0,
         }
     }
-}
-
-fn lock_path(table: &Place) -> Result<String, SystemErr> {
-    let mut path = path_of(table)?;
-    if path.as_str() == "/" {
-        path.clear();
-    }
-    path.push_str(LOCK)?;
-    Ok(path)
 }
 
 impl<M> DirStore<M> {
@@ -78,51 +73,117 @@ impl<M> DirStore<M> {
         Err(StoreErr::Failed)
     }
 
-    fn append_whole(&self, place: &Place, bytes: &[u8]) -> Result<(), SystemErr> {
-        append_to(&self.rt, path_of(place)?.as_str(), bytes)
+    // The path of a place, where no directory of it is a symbolic link.
+    fn path_to(&self, place: &Place) -> Result<String, SystemErr> {
+        let path = path_of(place)?;
+        self.check_links_to(path.as_str())?;
+        Ok(path)
     }
 
-    fn seal_file(&self, place: &Place) -> Result<(), SystemErr> {
-        if self.is_sync_lost {
-            return Err(SystemErr::Refused);
+    fn check_links_to(&self, path: &str) -> Result<(), SystemErr> {
+        match &self.around {
+            Some(around) => check_links(&self.rt, around.as_str(), path),
+            None => Ok(()),
         }
-        sync_file(&self.rt, path_of(place)?.as_str())
+    }
+
+    fn list(&mut self, dir: &Place) -> Result<ListedList, SystemErr>
+        ensures manners { self.new.manners ≡ self.old.manners }
+        ensures faults { self.new.faults ≡ self.old.faults }
+    {
+        let path = self.path_to(dir)?;
+        if self.around.is_none() {
+            self.around = Some(String::from_str(self.rt.alloc(), parent_of(path.as_str()))?);
+        }
+        match look(&self.rt, path.as_str())? {
+            Some(seen) if seen.is_symlink() => Err(SystemErr::Refused),
+            Some(seen) => {
+                note(&self.rt, path.as_str(), &mut self.changed)?;
+                self.is_listed = true;
+                files_under(&self.rt, dir, path.as_str(), &seen)
+            }
+            None => Ok(Items::empty(self.rt.alloc())),
+        }
     }
 
     fn size_at(&self, place: &Place) -> Result<Option<u64>, SystemErr> {
-        size_of(&self.rt, path_of(place)?.as_str())
+        size_of(&self.rt, self.path_to(place)?.as_str())
     }
 
     fn part_at(&self, place: &Place, from: u64, len: usize) -> Result<Option<Bytes>, SystemErr> {
-        read_part(&self.rt, path_of(place)?.as_str(), from, len)
+        read_part(&self.rt, self.path_to(place)?.as_str(), from, len)
     }
 
-    fn sync_changed(&self) -> Result<(), SystemErr> {
+    fn create_at(&mut self, place: &Place) -> Result<Made, SystemErr>
+        ensures manners { self.new.manners ≡ self.old.manners }
+        ensures faults { self.new.faults ≡ self.old.faults }
+    {
+        let path = self.path_to(place)?;
+        create_file(&self.rt, path, &mut self.open, &mut self.changed)
+    }
+
+    fn append_whole(&mut self, place: &Place, bytes: &[u8]) -> Result<(), SystemErr>
+        ensures manners { self.new.manners ≡ self.old.manners }
+        ensures faults { self.new.faults ≡ self.old.faults }
+    {
+        self.open.append(path_of(place)?.as_str(), bytes)
+    }
+
+    fn seal_file(&mut self, place: &Place) -> Result<(), SystemErr>
+        ensures manners { self.new.manners ≡ self.old.manners }
+        ensures faults { self.new.faults ≡ self.old.faults }
+    {
         if self.is_sync_lost {
             return Err(SystemErr::Refused);
         }
-        sync_directories(&self.rt, &self.changed)
+        self.open.seal(&self.rt, path_of(place)?.as_str())
     }
-}
 
-fn create_at(rt: &HostRuntime, place: &Place, changed: &mut Directories) -> Result<Made, SystemErr> {
-    create_file(rt, path_of(place)?.as_str(), changed)
-}
+    fn rename_to(&mut self, from: &Place, to: &Place) -> Result<Moved, SystemErr>
+        ensures manners { self.new.manners ≡ self.old.manners }
+        ensures faults { self.new.faults ≡ self.old.faults }
+    {
+        let from = self.path_to(from)?;
+        let to = path_of(to)?;
+        if parent_of(to.as_str()) != parent_of(from.as_str()) {
+            self.check_links_to(to.as_str())?;
+        }
+        self.settle_listed()?;
+        rename_file(&self.rt, from.as_str(), to.as_str(), &mut self.changed)
+    }
 
-fn remove_at(rt: &HostRuntime, place: &Place, changed: &mut Directories) -> Result<Gone, SystemErr> {
-    remove_file(rt, path_of(place)?.as_str(), changed)
-}
+    fn remove_at(&mut self, place: &Place) -> Result<Gone, SystemErr>
+        ensures manners { self.new.manners ≡ self.old.manners }
+        ensures faults { self.new.faults ≡ self.old.faults }
+    {
+        let path = self.path_to(place)?;
+        self.settle_listed()?;
+        remove_file(&self.rt, path.as_str(), &mut self.open, &mut self.changed)
+    }
 
-fn rename_to(
-    rt: &HostRuntime,
-    from: &Place,
-    to: &Place,
-    lock: &str,
-    changed: &mut Directories,
-) -> Result<Moved, SystemErr> {
-    let from = path_of(from)?;
-    let to = path_of(to)?;
-    rename_file(rt, from.as_str(), to.as_str(), lock, changed)
+    // Makes the names that were listed durable, once.
+    fn settle_listed(&mut self) -> Result<(), SystemErr>
+        ensures manners { self.new.manners ≡ self.old.manners }
+        ensures faults { self.new.faults ≡ self.old.faults }
+    {
+        if self.is_listed {
+            self.sync_changed()?;
+        }
+        Ok(())
+    }
+
+    fn sync_changed(&mut self) -> Result<(), SystemErr>
+        ensures manners { self.new.manners ≡ self.old.manners }
+        ensures faults { self.new.faults ≡ self.old.faults }
+    {
+        if self.is_sync_lost {
+            return Err(SystemErr::Refused);
+        }
+        sync_directories(&self.rt, &self.changed)?;
+        self.changed.clear();
+        self.is_listed = false;
+        Ok(())
+    }
 }
 
 impl<M: Manners> Store<M> for DirStore<M> {
@@ -135,7 +196,7 @@ impl<M: Manners> Store<M> for DirStore<M> {
     ghost halted = { λ _. None };
 
     fn names(&mut self, dir: &Place) -> Result<ListedList, StoreErr> {
-        let done = files_under(&self.rt, dir, self.lock.as_str());
+        let done = self.list(dir);
         self.answer(done)
     }
 
@@ -150,7 +211,7 @@ impl<M: Manners> Store<M> for DirStore<M> {
     }
 
     fn create(&mut self, place: &Place) -> Result<Made, StoreErr> {
-        let done = create_at(&self.rt, place, &mut self.changed);
+        let done = self.create_at(place);
         self.answer(done)
     }
 
@@ -165,20 +226,17 @@ impl<M: Manners> Store<M> for DirStore<M> {
     }
 
     fn rename_new(&mut self, from: &Place, to: &Place) -> Result<Moved, StoreErr> {
-        let done = rename_to(&self.rt, from, to, self.lock.as_str(), &mut self.changed);
+        let done = self.rename_to(from, to);
         self.answer(done)
     }
 
     fn remove(&mut self, place: &Place) -> Result<Gone, StoreErr> {
-        let done = remove_at(&self.rt, place, &mut self.changed);
+        let done = self.remove_at(place);
         self.answer(done)
     }
 
     fn sync_names(&mut self) -> Result<(), StoreErr> {
         let done = self.sync_changed();
-        if done.is_ok() {
-            self.changed.clear();
-        }
         self.answer(done)
     }
 }

@@ -1,7 +1,7 @@
 //! Output streams as sinks.
 ghost use Rattle.std.specs.Prelude.{◌≡◌, None};
 
-use crate::calls::write_whole;
+use crate::whole::write_whole;
 use ice_store::{Failed, Sink};
 use std::io::Write;
 

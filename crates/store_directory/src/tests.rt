@@ -78,7 +78,7 @@ fn make_link(rt: &HostRuntime, from: &str, to: &str) -> Result<(), Fail> {
 
 #[test]
 fn a_real_directory_keeps_files(rt: HostRuntime) -> Result<(), Fail> {
-    let store = &mut DirStore::new(rt, &here(&rt, "files")?, Alone)?;
+    let store = &mut DirStore::new(rt, Alone);
     assert!(rt; lists(&rt, store, "files", &[])?);
     assert_eq!(rt; size(&rt, store, "files/metadata/a")?, None);
     assert_eq!(rt; create(&rt, store, "files/metadata/a")?, Made::New);
@@ -144,7 +144,7 @@ fn a_real_directory_keeps_files(rt: HostRuntime) -> Result<(), Fail> {
 
 #[test]
 fn links_and_directories_are_left_alone(rt: HostRuntime) -> Result<(), Fail> {
-    let store = &mut DirStore::new(rt, &here(&rt, "links")?, Alone)?;
+    let store = &mut DirStore::new(rt, Alone);
     assert_eq!(rt; create(&rt, store, "links/metadata/a")?, Made::New);
     append(&rt, store, "links/metadata/a", "kept")?;
     seal(&rt, store, "links/metadata/a")?;
@@ -152,10 +152,13 @@ fn links_and_directories_are_left_alone(rt: HostRuntime) -> Result<(), Fail> {
     make_link(&rt, "a", "links/metadata/link")?;
     make_link(&rt, "metadata", "links/again")?;
     assert!(rt; lists(&rt, store, "links", &[("links/metadata/a", 4)])?);
+    let again = here(&rt, "links/again/a")?;
+    assert_eq!(rt; store.size(&again).err(), Some(StoreErr::Failed));
+    assert!(rt; store.names(&here(&rt, "links/again")?).is_err());
     let link = here(&rt, "links/metadata/link")?;
     let file = here(&rt, "links/metadata/a")?;
     assert_eq!(rt; store.size(&link).err(), Some(StoreErr::Failed));
-    assert_eq!(rt; store.faults, 1);
+    assert_eq!(rt; store.faults, 3);
     assert!(rt; store.read_at(&link, 0, 9).is_err());
     assert_eq!(rt; store.create(&link).err(), Some(StoreErr::Failed));
     assert_eq!(rt; store.append(&link, b"x").err(), Some(StoreErr::Failed));
@@ -169,9 +172,50 @@ fn links_and_directories_are_left_alone(rt: HostRuntime) -> Result<(), Fail> {
         store.remove(&here(&rt, "links/metadata")?).err(),
         Some(StoreErr::Failed)
     );
-    assert_eq!(rt; store.faults, 8);
+    assert_eq!(rt; store.faults, 10);
     assert!(rt; reads(store, &file, 0, 9, "kept")?);
     assert!(rt; fs::exists(&rt, "links/metadata/link")?);
+    Ok(())
+}
+
+// What a sync can't vouch for: a directory that is gone, and a file that isn't the one that was written.
+#[test]
+fn what_was_taken_away_is_not_durable(rt: HostRuntime) -> Result<(), Fail> {
+    let store = &mut DirStore::new(rt, Alone);
+    assert_eq!(rt; create(&rt, store, "away/metadata/a")?, Made::New);
+    assert_eq!(rt; create(&rt, store, "away/data/b")?, Made::New);
+    append(&rt, store, "away/metadata/a", "ours")?;
+    fs::remove_file(&rt, "away/metadata/a")?;
+    fs::write(&rt, "away/metadata/a", "theirs")?;
+    let file = here(&rt, "away/metadata/a")?;
+    assert_eq!(rt; store.seal(&file).err(), Some(StoreErr::Failed));
+    assert_eq!(rt; store.append(&file, b"x").err(), Some(StoreErr::Failed));
+    fs::remove_dir_all(&rt, "away/data")?;
+    assert_eq!(rt; store.sync_names().err(), Some(StoreErr::Failed));
+    assert_eq!(rt; store.faults, 3);
+    Ok(())
+}
+
+fn create_many(rt: &HostRuntime, store: &mut RealStore, count: usize) -> Result<usize, Fail> {
+    let mut made = 0;
+    for n in 0..count {
+        let name = format!(in rt.alloc(); "many/{n}")?;
+        match store.create(&here(rt, name.as_str())?) {
+            Ok(Made::New) => made += 1,
+            _ => return Ok(made),
+        }
+    }
+    Ok(made)
+}
+
+#[test]
+fn few_files_are_open_at_once(rt: HostRuntime) -> Result<(), Fail> {
+    let store = &mut DirStore::new(rt, Alone);
+    assert_eq!(rt; create_many(&rt, store, 300)?, 256);
+    assert_eq!(rt; store.faults, 1);
+    assert_eq!(rt; size(&rt, store, "many/256")?, None);
+    seal(&rt, store, "many/7")?;
+    assert_eq!(rt; create(&rt, store, "many/256")?, Made::New);
     Ok(())
 }
 

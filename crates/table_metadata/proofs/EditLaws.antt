@@ -23,13 +23,14 @@ use Rattle.metadata_form.specs.Path.{in_member, in_item, itself_unless}
 use Rattle.metadata_form.specs.Form.{misfit, unless_minus_one, is_natural_in, is_ref_type, is_branch_text, items_fault, array_fault, members_fault, object_fault}
 use Rattle.metadata_form.specs.Fields.{field, field_fault, fields_fault, record_fault, found_fault, rule_fault, rules_fault, metadata_rules, snapshot_fields, snapshot_log_fields, metadata_log_fields, ref_fields}
 use Rattle.metadata_form.specs.Fault.{unless_2, list_fault}
-use Rattle.table_metadata.specs.View.{updated_of, current_of, snapshots_of, snapshots_in, snapshot_of, main_ref, new_branch}
-use Rattle.table_metadata.specs.Walk.{snapshot_with}
-use Rattle.table_metadata.specs.Links.{is_main, first_double, main_agrees, current_fault, is_whole_ref, first_broken, refs_fault, ref_fault, first_return}
+use Rattle.metadata_view.specs.View.{updated_of, current_of, snapshots_of, snapshots_in, snapshot_of, main_ref, new_branch}
+use Rattle.metadata_view.specs.Walk.{snapshot_with, first_return}
+use Rattle.metadata_view.specs.Links.{is_main, main_agrees, current_fault, is_whole_ref, first_broken, refs_fault, ref_fault}
 use Rattle.table_metadata.specs.Edits.{moved_ref, with_moved_ref, snapshot_log_item, with_current, moment_of, with_ref, metadata_log_item, with_previous, next_keeping}
-use Rattle.table_metadata.specs.declared.types.Snapshot.{Snapshot}
-use Rattle.table_metadata.proofs.FormLaws.{no-parts, no-both, no-within, or-true, record-parts, record-whole, record-set, fields-drop, first-field, items-push, items-drop, items-in, array-items, members-in, members-put, members-found, found-value, rules-set, rules-drop, first-rule, moment_i64}
-use Rattle.table_metadata.proofs.SoundLaws.{IsSound}
+use Rattle.metadata_view.specs.declared.types.Snapshot.{Snapshot}
+use Rattle.metadata_form.proofs.FormLaws.{no-parts, no-both, no-within, or-true, record-parts, record-whole, record-set, fields-drop, first-field, items-push, items-drop, items-in, array-items, members-in, members-put, members-found, found-value, rules-set, rules-drop, first-rule, moment_i64}
+use Rattle.metadata_view.proofs.SoundLaws.{IsSound}
+use Rattle.metadata_view.specs.Index.{first_double}
 
 -- ---- fields that stay
 

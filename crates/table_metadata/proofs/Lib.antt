@@ -1,9 +1,2 @@
 pub mod EditLaws
-pub mod FormLaws
-pub mod IndexLaws
-pub mod Lists
-pub mod PropertyLaws
-pub mod SoundLaws
 pub mod SpellingLaws
-pub mod StepLaws
-pub mod WalkLaws

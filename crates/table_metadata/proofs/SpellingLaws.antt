@@ -4,7 +4,7 @@ use Rattle.serde_json.specs.Data.{Data}
 use Rattle.metadata_form.specs.declared.fault.Fault.{Fault}
 use Rattle.metadata_form.specs.declared.fault.MetaCause.{MetaCause}
 use Rattle.metadata_form.specs.declared.fault.MetaCause.TheVariants.{NotJson}
-use Rattle.table_metadata.specs.Fault.{fault_of}
+use Rattle.metadata_view.specs.Fault.{fault_of}
 use Rattle.table_metadata.specs.Spelling.{Spells, HasFault}
 
 abbrev pub fault : List ℕ → MetaCause → Fault

@@ -1,9 +1,3 @@
 pub mod Edits
-pub mod Fault
-pub mod Index
-pub mod Links
 pub mod MetaIs
 pub mod Spelling
-pub mod Steps
-pub mod View
-pub mod Walk

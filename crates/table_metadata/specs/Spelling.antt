@@ -4,14 +4,14 @@ use Rattle.serde_json.specs.Data.{Data}
 use Rattle.serde_json.specs.Read.{read}
 use Rattle.serde_json.specs.View.{view}
 use Rattle.serde_json.specs.declared.value.Value.{Value}
-use Rattle.table_metadata.specs.Fault.{fault_of}
+use Rattle.metadata_view.specs.Fault.{fault_of}
 use Rattle.metadata_form.specs.declared.fault.MetaCause.{MetaCause}
 use Rattle.metadata_form.specs.declared.fault.MetaCause.TheVariants.{NotJson}
 use Rattle.table_metadata.specs.declared.cause.MetaErr.{MetaErr}
 use Rattle.table_metadata.specs.declared.cause.MetaErr.TheVariants.{Bad, Memory}
 use Rattle.table_metadata.specs.declared.cause.EditErr.{EditErr}
 use Rattle.table_metadata.specs.declared.cause.EditErr.TheVariants as errors
-use Rattle.table_metadata.specs.declared.types.Snapshot.{Snapshot}
+use Rattle.metadata_view.specs.declared.types.Snapshot.{Snapshot}
 
 -- the bytes are JSON of a tree that is well-formed metadata
 pub record Spells (bytes : List ℕ) (d : Data) : Type 0 where
@@ -25,6 +25,7 @@ abbrev pub HasFault : List ℕ → List ℕ → MetaCause → Type 0
 HasFault bytes path cause = ((cause ≡ NotJson) × (path ≡ []) × (IsUtf8 bytes → read bytes ≡ None))
     ⊎ ((d : Data) × IsUtf8 bytes × (read bytes ≡ Some d) × (fault_of d ≡ Some (record { path = path; cause = cause })))
 
+-- the answer of a refusal tells what is wrong with the bytes; want of memory tells nothing
 abbrev pub IsRefused : List ℕ → MetaErr → Type 0
 IsRefused bytes Memory = Unit {0}
 IsRefused bytes (Bad path cause) = HasFault bytes path cause

@@ -1,10 +1,12 @@
-//! The edits of metadata, on its tree.
+//! The edits of metadata, on its tree and in place.
 ghost use Rattle.std.specs.Prelude.{◌≡◌, ◌<◌, IfOk, option_map};
+ghost use Rattle.serde_json.specs.Find.{get};
+ghost use Rattle.metadata_json.specs.Edits.{set};
 ghost use Rattle.serde_json.specs.View.{view};
-ghost use Rattle.table_metadata.specs.Edits.{moved_ref, with_moved_ref, snapshot_log_item, with_current, moment_of, with_ref, decimal_of, metadata_log_item, with_previous, next_keeping};
+ghost use Rattle.table_metadata.specs.Edits.{moved_ref, with_moved_ref, snapshot_log_item, with_current, moment_of, with_ref, metadata_log_item, with_previous, next_keeping};
 
-use crate::typed::new_branch;
-use metadata_json::{add, add_within, object_at, set, unsigned_or_zero};
+use metadata_json::{Taken, add, add_within, object_or_empty, set, take, unsigned_or_zero};
+use metadata_view::new_branch;
 use serde_json::{Value, json};
 use std::alloc::{AllocError, Global};
 
@@ -18,14 +20,20 @@ fn moved_ref(alloc: Global, old: Option<&Value>, id: i64) -> Result<Value, Alloc
     }
 }
 
+fn moved_among(alloc: Global, refs: Value, name: &str, id: i64) -> Result<Value, AllocError>
+    ensures { IfOk result (λ v. view v ≡ set name.now (moved_ref id (get name.now (view refs))) (view refs)) }
+{
+    let moved = moved_ref(alloc, refs.get(name), id)?;
+    set(alloc, refs, name, moved)
+}
+
 #[tactic(auto, unfolding(crate::specs::Edits::with_moved_ref))]
 fn with_moved_ref(alloc: Global, tree: Value, name: &str, id: i64) -> Result<Value, AllocError>
     ensures { IfOk result (λ v. view v ≡ with_moved_ref name.now id (view tree)) }
 {
-    let refs = object_at(alloc, &tree, "refs")?;
-    let moved = moved_ref(alloc, refs.get(name), id)?;
-    let refs = set(alloc, refs, name, moved)?;
-    set(alloc, tree, "refs", refs)
+    let Taken { rest, value } = take(alloc, tree, "refs")?;
+    let refs = moved_among(alloc, object_or_empty(alloc, value), name, id)?;
+    set(alloc, rest, "refs", refs)
 }
 
 #[tactic(auto, unfolding(crate::specs::Edits::snapshot_log_item))]
@@ -54,41 +62,20 @@ fn moment(ms: u64, tree: &Value) -> u64
 #[tactic(auto, unfolding(crate::specs::Edits::with_ref))]
 pub(crate) fn with_ref(
     alloc: Global,
-    tree: &Value,
+    tree: Value,
     name: &str,
     id: i64,
     ms: u64,
 ) -> Result<Value, AllocError>
-    ensures { IfOk result (λ v. view v ≡ with_ref name.now id ms (view tree.now)) }
+    ensures { IfOk result (λ v. view v ≡ with_ref name.now id ms (view tree)) }
 {
-    let t = moment(ms, tree);
-    let moved = with_moved_ref(alloc, tree.clone()?, name, id)?;
+    let t = moment(ms, &tree);
+    let moved = with_moved_ref(alloc, tree, name, id)?;
     if name == "main" {
         with_current(alloc, moved, id, t)
     } else {
         Ok(moved)
     }
-}
-
-/// The number that decimal digits stand for, where it is at most 2^63 - 1.
-#[tactic(auto, unfolding(crate::specs::Edits::decimal_of))]
-pub(crate) fn decimal(text: &[u8]) -> Option<u64>
-    ensures { result ≡ decimal_of text.now }
-{
-    if text.is_empty() {
-        return None;
-    }
-    let mut n: u128 = 0;
-    for digit in text {
-        if !digit.is_ascii_digit() {
-            return None;
-        }
-        n = n * 10 + (*digit - b'0') as u128;
-        if n >= 1 << 63 {
-            return None;
-        }
-    }
-    Some(n as u64)
 }
 
 #[tactic(auto, unfolding(crate::specs::Edits::metadata_log_item))]
@@ -111,15 +98,15 @@ fn with_previous(alloc: Global, tree: Value, previous: &str, most: u64) -> Resul
 #[tactic(auto, unfolding(crate::specs::Edits::next_keeping))]
 pub(crate) fn next_version(
     alloc: Global,
-    tree: &Value,
+    tree: Value,
     previous: &str,
     ms: u64,
     most: u64,
 ) -> Result<Value, AllocError>
     requires { 0 < most }
-    ensures { IfOk result (λ v. view v ≡ next_keeping most previous.now ms (view tree.now)) }
+    ensures { IfOk result (λ v. view v ≡ next_keeping most previous.now ms (view tree)) }
 {
-    let t = moment(ms, tree);
-    let longer = with_previous(alloc, tree.clone()?, previous, most)?;
+    let t = moment(ms, &tree);
+    let longer = with_previous(alloc, tree, previous, most)?;
     set(alloc, longer, "last-updated-ms", Value::from(t))
 }

@@ -5,20 +5,12 @@
 
 mod cause;
 mod edits;
-mod index;
-mod links;
 mod meta;
-mod steps;
-#[cfg(test)]
-mod tests;
-mod typed;
-mod types;
-mod walk;
 
 pub use cause::{EditErr, MetaErr};
-pub use meta::{Meta, read_meta, write_meta};
+pub use meta::{DEFAULT_VERSIONS, Meta, read_meta, write_meta};
 pub use metadata_form::MetaCause;
-pub use types::{
+pub use metadata_view::{
     IdList, Property, PropertyList, Ref, RefList, Snapshot, SnapshotList, Statistics,
     StatisticsList,
 };

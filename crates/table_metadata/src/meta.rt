@@ -7,25 +7,28 @@ ghost use Rattle.serde_json.specs.View.{view};
 ghost use Rattle.serde_json.specs.Written.{compact_text};
 ghost use Rattle.metadata_form.specs.Fault.{form_fault};
 ghost use Rattle.metadata_form.specs.declared.fault.MetaCause.TheVariants.{NotJson};
-ghost use Rattle.table_metadata.specs.Fault.{fault_of};
-ghost use Rattle.table_metadata.specs.View.{value_in, uuid_of, location_of, last_sequence_of, updated_of, current_of, current_schema_id_of, default_spec_id_of, snapshots_of, refs_of, ref_with, statistics_of, property_of};
+ghost use Rattle.metadata_view.specs.Fault.{fault_of};
+ghost use Rattle.metadata_view.specs.View.{value_in, uuid_of, location_of, last_sequence_of, updated_of, current_of, current_schema_id_of, default_spec_id_of, snapshots_of, refs_of, ref_with, statistics_of, property_of};
 ghost use Rattle.table_metadata.specs.Spelling.{Spells, IsRefused, IsReadAs, IsUnknown, IsFaultOf};
-ghost use Rattle.table_metadata.specs.Edits.{with_ref, next_version, version_limit, HasVersionLimit};
-ghost use Rattle.table_metadata.specs.Walk.{IsWalk, IsAncestor, snapshot_with};
+ghost use Rattle.table_metadata.specs.Edits.{with_ref, next_version, next_keeping, version_limit, kept_versions, HasVersionLimit};
+ghost use Rattle.metadata_view.specs.Walk.{IsWalk, IsAncestor, snapshot_with};
 ghost use Rattle.table_metadata.specs.declared.cause.MetaErr.TheVariants.{Bad};
 ghost use Rattle.table_metadata.specs.declared.cause.EditErr.TheVariants.{UnknownSnapshot};
 
 use crate::cause::{EditErr, MetaErr};
-use crate::index::{Index, Indexed, find, has, index_of};
-use crate::links::{double_id, links_fault};
-use crate::typed::{Typed, typed_view};
-use crate::types::{IdList, Property, Ref, RefList, Snapshot, SnapshotList, StatisticsList};
-use crate::{edits, walk};
-use ice_store::{Bytes, Items, Text};
+use crate::edits;
+use ice_store::{Bytes, Items, Text, natural_of};
 use metadata_form::{Fault, MetaCause, form_fault};
+use metadata_view::{
+    IdList, Index, Indexed, Property, Ref, RefList, Snapshot, SnapshotList, StatisticsList, Typed,
+    double_id, find, has, index_of, links_fault, on_walk, typed_view, walk,
+};
 use serde_json::Value;
 use std::alloc::{AllocError, Global};
 use std::marker::Model;
+
+/// How many items of the metadata log a table keeps where its property `write.metadata.previous-versions-max` is absent.
+pub const DEFAULT_VERSIONS: u64 = 100;
 
 /// Well-formed metadata, which contracts see as its JSON tree.
 #[derive(Drop)]
@@ -99,7 +102,7 @@ fn meta_of(alloc: Global, tree: Value) -> Result<Meta, AllocError>
 }
 
 // The metadata that a tree of the right form is, unless something is wrong among its snapshots.
-#[tactic(auto, unfolding(crate::specs::Fault::fault_of, crate::specs::Fault::snapshots_fault))]
+#[tactic(auto, unfolding(metadata_view::specs::Fault::fault_of, metadata_view::specs::Fault::snapshots_fault))]
 fn linked(alloc: Global, tree: Value) -> Result<Meta, MetaErr>
     requires form { form_fault (view tree) ≡ None }
     requires shallow { depth (view tree) ≤ max_depth }
@@ -155,7 +158,35 @@ pub fn write_meta(alloc: Global, meta: &Meta) -> Result<Bytes, AllocError>
     ensures text { IfOk result (λ b. b ≡ compact_text (view meta.now)) }
     ensures spells { IfOk result (λ b. Spells b (view meta.now)) }
 {
-    Ok(Bytes::new(meta.tree.to_vec(alloc)?))
+    written(alloc, &meta.tree)
+}
+
+fn written(alloc: Global, tree: &Value) -> Result<Bytes, AllocError>
+    requires sound { fault_of (view tree.now) ≡ None }
+    requires shallow { depth (view tree.now) ≤ max_depth }
+    ensures text { IfOk result (λ b. b ≡ compact_text (view tree.now)) }
+    ensures spells { IfOk result (λ b. Spells b (view tree.now)) }
+{
+    Ok(Bytes::new(tree.to_vec(alloc)?))
+}
+
+fn copied(tree: &Value) -> Result<Value, AllocError>
+    ensures { IfOk result (λ v. view v ≡ view tree.now) }
+{
+    tree.clone()
+}
+
+// The metadata with a ref, of the tree of well-formed metadata.
+fn with_ref(alloc: Global, tree: Value, name: &Text, id: i64, ms: u64) -> Result<Meta, AllocError>
+    requires sound { fault_of (view tree) ≡ None }
+    requires shallow { depth (view tree) ≤ max_depth }
+    requires utf8 { IsUtf8 name.now }
+    requires known { IsSome (snapshot_with (snapshots_of (view tree)) id) }
+    requires moment { ms < 2 ^ 63 }
+    ensures { IfOk result (λ m. view m ≡ with_ref name.now id ms (view tree)) }
+{
+    let tree = edits::with_ref(alloc, tree, as_str(name), id, ms)?;
+    meta_of(alloc, tree)
 }
 
 impl Meta {
@@ -284,7 +315,7 @@ impl Meta {
     pub fn ancestors(&self, alloc: Global, id: i64) -> Result<IdList, AllocError>
         ensures { IfOk result (λ ids. IsWalk (snapshots_of (view self.now)) (Some id) ids) }
     {
-        let ids = walk::walk(alloc, &self.index, self.typed.snapshots.inner(), Some(id))?;
+        let ids = walk(alloc, &self.index, self.typed.snapshots.inner(), Some(id))?;
         Ok(Items::new(ids))
     }
 
@@ -292,7 +323,7 @@ impl Meta {
     pub fn ancestor_of(&self, id: i64, of: i64) -> bool
         ensures { IsTrue result ↔ IsAncestor (snapshots_of (view self.now)) id of }
     {
-        walk::on_walk(&self.index, self.typed.snapshots.inner(), id, Some(of))
+        on_walk(&self.index, self.typed.snapshots.inner(), id, Some(of))
     }
 
     /// The metadata with the ref `name` at the snapshot `id`, at the moment `ms` or, where that is later, at the
@@ -311,16 +342,41 @@ impl Meta {
         if !has(&self.index, self.typed.snapshots.inner(), id) {
             return Err(EditErr::UnknownSnapshot { id });
         }
-        let tree = edits::with_ref(alloc, &self.tree, as_str(name), id, ms)?;
-        Ok(meta_of(alloc, tree)?)
+        let copy = copied(&self.tree)?;
+        Ok(with_ref(alloc, copy, name, id, ms)?)
+    }
+
+    /// The same metadata with the ref, as `with_ref` says, without a copy.
+    pub fn into_with_ref(
+        self,
+        alloc: Global,
+        name: &Text,
+        id: i64,
+        ms: u64,
+    ) -> Result<Meta, AllocError>
+        requires utf8 { IsUtf8 name.now }
+        requires known { IsSome (snapshot_with (snapshots_of (view self)) id) }
+        requires moment { ms < 2 ^ 63 }
+        ensures { IfOk result (λ m. view m ≡ with_ref name.now id ms (view self)) }
+    {
+        with_ref(alloc, self.into_tree(), name, id, ms)
+    }
+
+    // The typed view goes before an edit makes a new one.
+    fn into_tree(self) -> Value
+        ensures tree { view result ≡ view self }
+        ensures sound { fault_of (view self) ≡ None }
+        ensures shallow { depth (view self) ≤ max_depth }
+    {
+        self.tree
     }
 
     fn version_limit(&self) -> Option<u64>
         ensures { result ≡ version_limit (view self.now) }
     {
         match self.property("write.metadata.previous-versions-max") {
-            Some(text) => edits::decimal(text.inner().as_slice()),
-            None => Some(100),
+            Some(text) => natural_of(text.inner().as_slice()),
+            None => Some(DEFAULT_VERSIONS),
         }
     }
 
@@ -330,6 +386,13 @@ impl Meta {
         ensures { IsTrue result ↔ HasVersionLimit (view self.now) }
     {
         self.version_limit().is_some()
+    }
+
+    fn kept_versions(&self) -> u64
+        ensures value { result ≡ kept_versions (version_limit (view self.now)) }
+        ensures some { 0 < result }
+    {
+        self.version_limit().unwrap_or(DEFAULT_VERSIONS).max(1)
     }
 
     /// The metadata of the next version: updated at `ms` or, where that is later, at its own moment. The text
@@ -343,10 +406,49 @@ impl Meta {
         ensures stays { IfOk result (λ m. (key : List ℕ) → key ≢ codes "last-updated-ms"
             → key ≢ codes "metadata-log" → get key (view m) ≡ get key (view self.now)) }
     {
-        let most = self.version_limit().unwrap_or(100).max(1);
-        let tree = edits::next_version(alloc, &self.tree, as_str(previous), ms, most)?;
+        let most = self.kept_versions();
+        let copy = copied(&self.tree)?;
+        let tree = next_tree(alloc, copy, previous, ms, most)?;
         meta_of(alloc, tree)
     }
+
+    /// The written spelling of the next version, as `next_version` says, without a copy of the tree.
+    pub fn into_next_version_bytes(
+        self,
+        alloc: Global,
+        previous: &Text,
+        ms: u64,
+    ) -> Result<Bytes, AllocError>
+        requires utf8 { IsUtf8 previous.now }
+        requires moment { ms < 2 ^ 63 }
+        requires limit { HasVersionLimit (view self) }
+        ensures text { IfOk result (λ b. b ≡ compact_text (next_version previous.now ms (view self))) }
+        ensures spells { IfOk result (λ b. Spells b (next_version previous.now ms (view self))) }
+    {
+        let most = self.kept_versions();
+        let tree = next_tree(alloc, self.into_tree(), previous, ms, most)?;
+        written(alloc, &tree)
+    }
+}
+
+// The tree of the next version, which keeps so many items of the metadata log.
+fn next_tree(
+    alloc: Global,
+    tree: Value,
+    previous: &Text,
+    ms: u64,
+    most: u64,
+) -> Result<Value, AllocError>
+    requires sound { fault_of (view tree) ≡ None }
+    requires shallow { depth (view tree) ≤ max_depth }
+    requires utf8 { IsUtf8 previous.now }
+    requires moment { ms < 2 ^ 63 }
+    requires some { 0 < most }
+    ensures tree { IfOk result (λ t. view t ≡ next_keeping most previous.now ms (view tree)) }
+    ensures sound { IfOk result (λ t. fault_of (view t) ≡ None) }
+    ensures shallow { IfOk result (λ t. depth (view t) ≤ max_depth) }
+{
+    edits::next_version(alloc, tree, as_str(previous), ms, most)
 }
 
 fn ref_with<'r>(refs: &'r [Ref], name: &Text) -> Option<&'r Ref>

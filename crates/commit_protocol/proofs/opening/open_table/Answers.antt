@@ -1,10 +1,8 @@
 use Rattle.std.proofs.Common.{◌≡◌, Ok, Err}
 use Rattle.ice_store.specs.History.{replay}
 use Rattle.ice_store.proofs.SinceLaws.{since_turned}
-use Rattle.commit_history.specs.Versions.{number_in}
-use Rattle.commit_publish.specs.Stages.{Narrow, NoReach}
 use Rattle.commit_versions.specs.Opening.{OpenLeaves}
-use Rattle.commit_protocol.specs.Metadata.{IsTableOf, TableLeaves, OpenErrLeaves}
+use Rattle.commit_protocol.specs.Metadata.{metadata_rules, TableLeaves, OpenErrLeaves}
 use Rattle.commit_protocol.specs.Verdicts.{OpenVerdict, IsExactOpening}
 use Rattle.commit_protocol.proofs.OpeningLaws as opening
 use Rattle.commit_protocol.proofs.QuietLaws.{same_past}
@@ -16,21 +14,19 @@ pub returns-in-Ok-clause-told : goal.returns-in-Ok-clause-told
 returns-in-Ok-clause-told g c =
     let t = c.args.table.now in
     let allows = g.M.Manners.allows (g.S.Store.manners c.args.store.now) in
-    let number = number_in t in
-    let Good = Narrow IsTableOf t in
     let p0 = g.S.Store.past c.args.store.now in
     let p1 = g.S.Store.past c.open_version.new.store in
     let o = c.in-Ok.opened in
-    since_turned p0 p1 (OpenLeaves number Good NoReach allows t (Ok o)) (TableLeaves number Good NoReach allows t c.read_table.result) c.in-Ok.ensures.told
-    (λ old new h. opening.table_by number Good NoReach allows t o old new h c.in-Ok.ensures.numbers c.read_table.result c.read_table.ensures)
+    since_turned p0 p1 (OpenLeaves (metadata_rules t allows) t (Ok o)) (TableLeaves t allows c.read_table.result) c.in-Ok.ensures.told
+    (λ old new h. opening.table_by t allows o old new h c.in-Ok.ensures.numbers c.read_table.result c.read_table.ensures)
 
 pub returns-in-Ok-clause-alone : goal.returns-in-Ok-clause-alone
 returns-in-Ok-clause-alone g c nobody =
     let t = c.args.table.now in
     let allows = g.M.Manners.allows (g.S.Store.manners c.args.store.now) in
     let r = c.read_table.result in
-    since_turned (g.S.Store.past c.args.store.now) (g.S.Store.past c.open_version.new.store) (TableLeaves (number_in t) (Narrow IsTableOf t) NoReach allows t r) (λ old new. OpenVerdict t (replay old).files r) (returns-in-Ok-clause-told g c)
-    (λ old new h. (opening_answered t (Narrow IsTableOf t) NoReach allows nobody r old new h).1)
+    since_turned (g.S.Store.past c.args.store.now) (g.S.Store.past c.open_version.new.store) (TableLeaves t allows r) (λ old new. OpenVerdict t (replay old).files r) (returns-in-Ok-clause-told g c)
+    (λ old new h. (opening_answered t allows nobody r old new h).1)
 
 pub returns-in-Ok-clause-idle : goal.returns-in-Ok-clause-idle
 returns-in-Ok-clause-idle g c nobody =
@@ -39,24 +35,24 @@ returns-in-Ok-clause-idle g c nobody =
     let p0 = g.S.Store.past c.args.store.now in
     let p1 = g.S.Store.past c.open_version.new.store in
     let r = c.read_table.result in
-    same_past p0 p1 (since_turned p0 p1 (TableLeaves (number_in t) (Narrow IsTableOf t) NoReach allows t r) (λ old new. new ≡ old) (returns-in-Ok-clause-told g c)
-    (λ old new h. (opening_answered t (Narrow IsTableOf t) NoReach allows nobody r old new h).0))
+    same_past p0 p1 (since_turned p0 p1 (TableLeaves t allows r) (λ old new. new ≡ old) (returns-in-Ok-clause-told g c)
+    (λ old new h. (opening_answered t allows nobody r old new h).0))
 
 pub returns-in-Err-clause-told : goal.returns-in-Err-clause-told
 returns-in-Err-clause-told g c =
     let t = c.args.table.now in
     let allows = g.M.Manners.allows (g.S.Store.manners c.args.store.now) in
     let e = c.in-Err.e in
-    since_turned (g.S.Store.past c.args.store.now) (g.S.Store.past c.open_version.new.store) (OpenLeaves (number_in t) (Narrow IsTableOf t) NoReach allows t (Err e)) (OpenErrLeaves (number_in t) (Narrow IsTableOf t) NoReach allows t e) c.in-Err.ensures.told
-    (λ old new h. opening.unopened_by (number_in t) (Narrow IsTableOf t) NoReach allows t e old new h)
+    since_turned (g.S.Store.past c.args.store.now) (g.S.Store.past c.open_version.new.store) (OpenLeaves (metadata_rules t allows) t (Err e)) (OpenErrLeaves t allows e) c.in-Err.ensures.told
+    (λ old new h. opening.unopened_by t allows e old new h)
 
 pub returns-in-Err-clause-alone : goal.returns-in-Err-clause-alone
 returns-in-Err-clause-alone g c nobody =
     let t = c.args.table.now in
     let allows = g.M.Manners.allows (g.S.Store.manners c.args.store.now) in
     let r = Err c.in-Err.e in
-    since_turned (g.S.Store.past c.args.store.now) (g.S.Store.past c.open_version.new.store) (OpenLeaves (number_in t) (Narrow IsTableOf t) NoReach allows t (Err c.in-Err.e)) (λ old new. OpenVerdict t (replay old).files r) c.in-Err.ensures.told
-    (λ old new h. (opening_answered t (Narrow IsTableOf t) NoReach allows nobody r old new (opening.unopened_by (number_in t) (Narrow IsTableOf t) NoReach allows t c.in-Err.e old new h)).1)
+    since_turned (g.S.Store.past c.args.store.now) (g.S.Store.past c.open_version.new.store) (OpenLeaves (metadata_rules t allows) t (Err c.in-Err.e)) (λ old new. OpenVerdict t (replay old).files r) c.in-Err.ensures.told
+    (λ old new h. (opening_answered t allows nobody r old new (opening.unopened_by t allows c.in-Err.e old new h)).1)
 
 pub returns-in-Err-clause-idle : goal.returns-in-Err-clause-idle
 returns-in-Err-clause-idle g c nobody =
@@ -65,8 +61,8 @@ returns-in-Err-clause-idle g c nobody =
     let p0 = g.S.Store.past c.args.store.now in
     let p1 = g.S.Store.past c.open_version.new.store in
     let r = Err c.in-Err.e in
-    same_past p0 p1 (since_turned p0 p1 (OpenLeaves (number_in t) (Narrow IsTableOf t) NoReach allows t (Err c.in-Err.e)) (λ old new. new ≡ old) c.in-Err.ensures.told
-    (λ old new h. (opening_answered t (Narrow IsTableOf t) NoReach allows nobody r old new (opening.unopened_by (number_in t) (Narrow IsTableOf t) NoReach allows t c.in-Err.e old new h)).0))
+    same_past p0 p1 (since_turned p0 p1 (OpenLeaves (metadata_rules t allows) t (Err c.in-Err.e)) (λ old new. new ≡ old) c.in-Err.ensures.told
+    (λ old new h. (opening_answered t allows nobody r old new (opening.unopened_by t allows c.in-Err.e old new h)).0))
 
 pub returns-in-Ok-clause-exactly : goal.returns-in-Ok-clause-exactly
 returns-in-Ok-clause-exactly g c nobody =

@@ -1,6 +1,6 @@
 use Rattle.std.proofs.Common.{◌≡◌, None}
 use Rattle.serde_json.specs.View.{view}
-use Rattle.table_metadata.specs.View.{current_of}
+use Rattle.metadata_view.specs.View.{current_of}
 use Rattle.run_refs.proofs.ListingLaws.{lists_nothing}
 use Rattle.run_refs.proofs.ancestors.list_ancestors.Goals as goal
 

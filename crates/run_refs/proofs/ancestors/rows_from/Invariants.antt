@@ -1,6 +1,6 @@
 use Rattle.std.proofs.Common.{◌≡◌, map, take}
 use Rattle.serde_json.specs.View.{view}
-use Rattle.table_metadata.specs.View.{snapshots_of}
+use Rattle.metadata_view.specs.View.{snapshots_of}
 use Rattle.run_refs.specs.Ancestors.{row_of}
 use Rattle.run_refs.proofs.ancestors.rows_from.Given as goal
 

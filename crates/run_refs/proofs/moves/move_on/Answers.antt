@@ -3,17 +3,17 @@ use Rattle.std.proofs.lemmas.Int.{to_z-of_z}
 use Rattle.std.specs.Prelude.{IsSome}
 use Rattle.serde_json.specs.View.{view}
 use Rattle.table_metadata.specs.Edits.{with_ref}
-use Rattle.table_metadata.specs.View.{snapshots_of}
-use Rattle.table_metadata.specs.Walk.{snapshot_with}
+use Rattle.metadata_view.specs.View.{snapshots_of}
+use Rattle.metadata_view.specs.Walk.{snapshot_with}
 use Rattle.run_refs.specs.Moves.{Aim, Aims}
 use Rattle.run_refs.specs.Refs.{goal_ref, ref_at}
 use Rattle.run_refs.proofs.AimLaws.{known, moves_to}
 use Rattle.run_refs.proofs.moves.move_on.Goals as goal
 
-pub with_ref-requires-clause-known : goal.with_ref-requires-clause-known
-with_ref-requires-clause-known c =
+pub into_with_ref-requires-clause-known : goal.into_with_ref-requires-clause-known
+into_with_ref-requires-clause-known c =
     let wish = c.args.goal.now in
-    let tree = view c.args.meta.now in
+    let tree = view c.args.meta in
     let id = c.in-Ok.id in
     let fits : FitsSigned w64 id = search rules in
     let aims = subst (λ (x : Aim). Aims wish tree x) c.in-Ok.is c.in_ok-id.ensures.aim in
@@ -22,7 +22,7 @@ with_ref-requires-clause-known c =
 pub returns-clause-built : goal.returns-clause-built
 returns-clause-built c =
     let wish = c.args.goal.now in
-    let tree = view c.args.meta.now in
+    let tree = view c.args.meta in
     let id = c.in-Ok.id in
     let fits : FitsSigned w64 id = search rules in
     let same = to_z-of_z w64 id fits in

@@ -1,9 +1,8 @@
 use Rattle.std.proofs.Common.{◌≡◌, Some, None, ap, ◌∙◌, subst}
 use Rattle.serde_json.specs.View.{view}
-use Rattle.table_metadata.specs.Index.{IsIndexed}
-use Rattle.table_metadata.specs.Links.{first_double}
-use Rattle.table_metadata.specs.View.{snapshots_of}
-use Rattle.table_metadata.proofs.SoundLaws.{sound}
+use Rattle.metadata_view.specs.Index.{IsIndexed, first_double}
+use Rattle.metadata_view.specs.View.{snapshots_of}
+use Rattle.metadata_view.proofs.SoundLaws.{sound}
 use Rattle.table_metadata.proofs.meta.meta_of.Goals as goal
 
 pub unreachable-requires : goal.unreachable-requires

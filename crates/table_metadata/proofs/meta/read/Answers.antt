@@ -1,9 +1,9 @@
 use Rattle.std.proofs.Common.{◌≡◌, inr, Some, sym, subst, ◌∙◌}
 use Rattle.serde_json.specs.View.{view}
 use Rattle.metadata_form.specs.Fault.{form_fault}
-use Rattle.table_metadata.specs.Fault.{fault_of}
+use Rattle.metadata_view.specs.Fault.{fault_of}
 use Rattle.table_metadata.specs.Spelling.{IsRefused}
-use Rattle.table_metadata.proofs.SoundLaws.{form-first}
+use Rattle.metadata_view.proofs.SoundLaws.{form-first}
 use Rattle.table_metadata.proofs.meta.read.Goals as goal
 
 pub returns-in-Some-clause-err : goal.returns-in-Some-clause-err

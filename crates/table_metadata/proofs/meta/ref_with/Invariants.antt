@@ -1,5 +1,5 @@
 use Rattle.std.proofs.Common.{◌≡◌, drop}
-use Rattle.table_metadata.specs.View.{ref_with}
+use Rattle.metadata_view.specs.View.{ref_with}
 use Rattle.table_metadata.proofs.meta.ref_with.Given as goal
 
 abbrev pub invariant-loop-reference : goal.invariant-loop-reference

@@ -1,5 +1,5 @@
 use Rattle.std.proofs.Common.{◌≡◌, drop}
-use Rattle.table_metadata.specs.View.{value_in}
+use Rattle.metadata_view.specs.View.{value_in}
 use Rattle.table_metadata.proofs.meta.value_of.Given as goal
 
 abbrev pub invariant-loop-property : goal.invariant-loop-property

@@ -1,11 +1,11 @@
 use Rattle.std.proofs.Common.{◌≡◌, List, Some, length, ◌+◌, FitsSigned, w64, ap, ◌∙◌}
 use Rattle.std.proofs.lemmas.Int.{to_z-of_z}
 use Rattle.serde_json.specs.View.{view}
-use Rattle.table_metadata.specs.View.{snapshots_of}
-use Rattle.table_metadata.specs.Walk.{walk, has_id}
-use Rattle.table_metadata.specs.declared.types.Snapshot.{Snapshot}
-use Rattle.table_metadata.proofs.SoundLaws.{sound}
-use Rattle.table_metadata.proofs.WalkLaws.{is_walk, ancestor-if}
+use Rattle.metadata_view.specs.View.{snapshots_of}
+use Rattle.metadata_view.specs.Walk.{walk, has_id}
+use Rattle.metadata_view.specs.declared.types.Snapshot.{Snapshot}
+use Rattle.metadata_view.proofs.SoundLaws.{sound}
+use Rattle.metadata_view.proofs.WalkLaws.{is_walk, ancestor-if}
 use Rattle.table_metadata.proofs.meta.Meta.ancestor_of.Goals as goal
 
 pub returns : goal.returns

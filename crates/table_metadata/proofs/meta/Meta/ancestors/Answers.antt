@@ -1,11 +1,11 @@
 use Rattle.std.proofs.Common.{◌≡◌, List, ℤ, Some, length, ◌+◌, FitsSigned, w64, sym, ap, ◌∙◌, subst}
 use Rattle.std.proofs.lemmas.Int.{to_z-of_z}
 use Rattle.serde_json.specs.View.{view}
-use Rattle.table_metadata.specs.View.{snapshots_of}
-use Rattle.table_metadata.specs.Walk.{IsWalk, walk}
-use Rattle.table_metadata.specs.declared.types.Snapshot.{Snapshot}
-use Rattle.table_metadata.proofs.SoundLaws.{sound}
-use Rattle.table_metadata.proofs.WalkLaws.{is_walk}
+use Rattle.metadata_view.specs.View.{snapshots_of}
+use Rattle.metadata_view.specs.Walk.{IsWalk, walk}
+use Rattle.metadata_view.specs.declared.types.Snapshot.{Snapshot}
+use Rattle.metadata_view.proofs.SoundLaws.{sound}
+use Rattle.metadata_view.proofs.WalkLaws.{is_walk}
 use Rattle.table_metadata.proofs.meta.Meta.ancestors.Goals as goal
 
 pub returns : goal.returns

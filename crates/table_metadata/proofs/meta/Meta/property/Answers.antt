@@ -1,8 +1,8 @@
 use Rattle.std.proofs.Common.{codes, ap, ◌∙◌}
 use Rattle.serde_json.specs.View.{view}
 use Rattle.metadata_json.specs.Fields.{members_at}
-use Rattle.table_metadata.specs.View.{value_in, property_of}
-use Rattle.table_metadata.proofs.PropertyLaws.{value_in-members}
+use Rattle.metadata_view.specs.View.{value_in, property_of}
+use Rattle.metadata_view.proofs.PropertyLaws.{value_in-members}
 use Rattle.table_metadata.proofs.meta.Meta.property.Goals as goal
 
 pub returns : goal.returns

@@ -1,7 +1,7 @@
 use Rattle.std.proofs.Common.{is_some, ap, ◌∙◌}
 use Rattle.serde_json.specs.View.{view}
-use Rattle.table_metadata.proofs.FormLaws.{is_some-copied}
-use Rattle.table_metadata.proofs.SoundLaws.{sound, has_schemas_tree}
+use Rattle.metadata_form.proofs.FormLaws.{is_some-copied}
+use Rattle.metadata_view.proofs.SoundLaws.{sound, has_schemas_tree}
 use Rattle.table_metadata.proofs.meta.Meta.schemas_tree.Goals as goal
 
 pub unwrap-requires : goal.unwrap-requires

@@ -1,0 +1,15 @@
+-- What a change of a table means.
+use Rattle.std.specs.Prelude.{◌≡◌}
+use Rattle.serde_json.specs.Data.{Data}
+use Rattle.commit_protocol.specs.declared.errors.AttemptErr.{AttemptErr}
+
+-- the meanings of a change: which metadata succeeds a base's, when there is nothing to change, how a base is refused, and what was kept of the base on which it was asked
+pub record Meanings : Type 1 where
+  pub successor : Data → Data → Type 0
+  pub same : Data → Type 0
+  pub refuses : Data → AttemptErr → Type 0
+  pub seen : Data → Type 0
+
+-- what makes this successor of each base, and no other
+abbrev pub only : Data → Meanings
+only built = record { successor = λ tree next. next ≡ built; same = λ tree. ⊥; refuses = λ tree e. ⊥; seen = λ tree. Unit {0} }

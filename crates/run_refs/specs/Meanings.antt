@@ -1,0 +1,16 @@
+-- What a move of a ref means to a commit.
+use Rattle.std.specs.Prelude.{ℕ}
+use Rattle.serde_json.specs.Data.{Data}
+use Rattle.commit_protocol.specs.Attempts.{MakesOf}
+use Rattle.commit_protocol.specs.Meanings.{Meanings}
+use Rattle.commit_protocol.specs.declared.change.Built.{Built}
+use Rattle.run_refs.specs.declared.goal.Goal.{Goal}
+use Rattle.run_refs.specs.Moves.{Moves, IsThere, RefusesMove}
+
+-- a move of a ref, which has kept this of the base on which it was asked
+abbrev pub moves_of : Goal → ℕ → (Data → Type 0) → Meanings
+moves_of goal now Seen = record { successor = Moves goal now; same = IsThere goal; refuses = RefusesMove goal; seen = Seen }
+
+-- what a move builds on a base, whatever it keeps of it
+abbrev pub IsMoved : Goal → ℕ → Data → Built → Type 0
+IsMoved goal now = MakesOf (moves_of goal now (λ tree. Unit {0}))

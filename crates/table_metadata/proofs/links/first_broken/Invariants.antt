@@ -1,7 +1,0 @@
-use Rattle.std.proofs.Common.{◌≡◌}
-use Rattle.serde_json.specs.View.{members_view}
-use Rattle.table_metadata.specs.Links.{first_broken}
-use Rattle.table_metadata.proofs.links.first_broken.Given as goal
-
-abbrev pub invariant-loop-name : goal.invariant-loop-name
-invariant-loop-name l = first_broken l.snapshots l.agrees (members_view l.refs.entries) ≡ first_broken l.snapshots l.agrees (members_view l.name-iterator)

@@ -1,7 +1,0 @@
-use Rattle.std.proofs.Common.{◌≡◌, map, take}
-use Rattle.serde_json.specs.View.{view}
-use Rattle.table_metadata.specs.View.{snapshot_of}
-use Rattle.table_metadata.proofs.typed.snapshots.Given as goal
-
-abbrev pub invariant-loop-item : goal.invariant-loop-item
-invariant-loop-item l = l.found.items ≡ map (λ v. snapshot_of (view v)) (take l.item-index l.list)
