@@ -7,7 +7,7 @@ use crate::directories::{Directories, make_parents, note_parent};
 use crate::open_files::OpenFiles;
 use ice_store::{Gone, Made, Moved};
 use std::fs;
-use std::fs::{File, OpenOptions, TryLockError};
+use std::fs::{File, Metadata, OpenOptions, TryLockError};
 use std::io::ErrorKind;
 
 /// How often the lock is tried before a rename gives up.
@@ -114,20 +114,30 @@ fn rename_where_free(rt: &HostRuntime, from: &str, to: &str) -> Result<Moved, Sy
     }
 }
 
+// The lock file, made where it lacks. A file that is made new is no link, and another is the one that was looked at.
 fn open_lock(rt: &HostRuntime, lock: &str) -> Result<File, SystemErr> {
-    let before = look_for_file(rt, lock)?;
-    let Ok(file) = OpenOptions::new().write(true).create(true).open(rt, lock) else {
-        return Err(SystemErr::Refused);
-    };
-    let looked_at = match before {
-        Some(found) => Some(found),
-        None => look_for_file(rt, lock)?,
-    };
-    match looked_at {
-        Some(found) => check_same(&found, &metadata_of(&file)?)?,
-        None => return Err(SystemErr::Refused),
+    if let Some(found) = look_for_file(rt, lock)? {
+        return open_found(rt, lock, &found);
     }
-    Ok(file)
+    match File::create_new(rt, lock) {
+        Ok(file) => return Ok(file),
+        Err(e) if e.kind() == ErrorKind::AlreadyExists => {}
+        Err(_) => return Err(SystemErr::Refused),
+    }
+    match look_for_file(rt, lock)? {
+        Some(found) => open_found(rt, lock, &found),
+        None => Err(SystemErr::Refused),
+    }
+}
+
+fn open_found(rt: &HostRuntime, path: &str, found: &Metadata) -> Result<File, SystemErr> {
+    match OpenOptions::new().write(true).open(rt, path) {
+        Ok(file) => {
+            check_same(found, &metadata_of(&file)?)?;
+            Ok(file)
+        }
+        Err(_) => Err(SystemErr::Refused),
+    }
 }
 
 fn take_lock(file: &File) -> Result<(), SystemErr> {

@@ -78,6 +78,9 @@ impl OpenFiles {
     /// Takes out the file that was created at this path, where there is one.
     pub fn take(&mut self, path: &str) -> Option<File> {
         let index = self.index_of(path)?;
+        if index >= self.files.len() {
+            return None;
+        }
         let OpenFile { file, .. } = self.files.swap_remove(index);
         Some(file)
     }

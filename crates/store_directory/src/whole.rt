@@ -1,7 +1,7 @@
 //! Reading until a buffer is full, and writing until all is taken, over as many calls as a stream needs.
 ghost use Rattle.std.specs.Prelude.{◌≡◌, ◌≤◌, ◌<◌, length, take, IfOk};
 ghost use Rattle.std.specs.Io.KnownBytes.{Consumes, IsAtEnd};
-ghost use Rattle.store_directory.specs.Whole.{TakesFront};
+ghost use Rattle.store_directory.specs.Whole.{TakesFront, TakesSome};
 
 use ice_store::Failed;
 use std::io::{ErrorKind, Read, Write};
@@ -18,10 +18,17 @@ pub fn fill<R: Read>(source: &mut R, buffer: &mut [u8]) -> Result<usize, Failed>
             return Ok(filled);
         }
         match source.read(&mut buffer[filled..]) {
-            Ok(0) => return Ok(filled),
-            Ok(n) => filled += n,
-            Err(e) if e.kind() == ErrorKind::Interrupted => {}
-            Err(_) => return Err(Failed),
+            Ok(n) => {
+                if n == 0 {
+                    return Ok(filled);
+                }
+                filled += n;
+            }
+            Err(e) => {
+                if e.kind() != ErrorKind::Interrupted {
+                    return Err(Failed);
+                }
+            }
         }
     }
     Err(Failed)
@@ -37,12 +44,31 @@ pub fn write_whole<W: Write>(out: &mut W, bytes: &[u8]) -> Result<(), Failed>
         if rest.is_empty() {
             return Ok(());
         }
-        match out.write(rest) {
-            Ok(0) => return Err(Failed),
+        match write_once(out, rest) {
             Ok(n) => rest = &rest[n..],
-            Err(e) if e.kind() == ErrorKind::Interrupted => {}
             Err(_) => return Err(Failed),
         }
     }
     Err(Failed)
+}
+
+// One write of bytes, and how many of them it took: none where the call was interrupted.
+fn write_once<W: Write>(out: &mut W, bytes: &[u8]) -> Result<usize, Failed>
+    ensures within { IfOk result (λ n. n ≤ length bytes.now) }
+    ensures taken { TakesSome (W.contents out.old) (W.contents out.new) bytes.now result }
+{
+    match out.write(bytes) {
+        Ok(n) => {
+            if n == 0 {
+                return Err(Failed);
+            }
+            Ok(n)
+        }
+        Err(e) => {
+            if e.kind() != ErrorKind::Interrupted {
+                return Err(Failed);
+            }
+            Ok(0)
+        }
+    }
 }

@@ -2,7 +2,8 @@
 use Rattle.std.proofs.Common.{◌≡◌, ℕ, suc, ◌+◌, ◌<◌, List, [], ◌∷◌, length, get_or, drop, sym, ap, ◌∙◌, subst, add-one}
 use Rattle.std.proofs.Math.Seq.{drop-cons}
 use Rattle.ice_store.specs.History.{later}
-use Rattle.ice_store.specs.Others.{Allowed, Acted, by_them, next_moment}
+use Rattle.ice_store.specs.Others.{Allowed, Acted}
+use Rattle.store_memory.specs.Neighbours.{by_them, next_moment}
 use Rattle.ice_store.proofs.OthersLaws.{acted_then, one_acted}
 use Rattle.ice_store.specs.declared.history.Event.{Event}
 use Rattle.ice_store.specs.declared.history.Past.{Past}

@@ -3,3 +3,4 @@ pub mod Torn
 pub mod Failing
 pub mod Given
 pub mod Sinks
+pub mod Neighbours

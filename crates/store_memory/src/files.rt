@@ -6,7 +6,7 @@ ghost use Rattle.ice_store.specs.Places.{same_place};
 ghost use Rattle.ice_store.specs.Files.{find, without, changed, renamed};
 ghost use Rattle.ice_store.specs.History.{appended, sealed, files_after, pending_by, base_from};
 
-use ice_store::{Bytes, NameChange, FileRec, Held, Listed, Place, Step, Who};
+use ice_store::{Bytes, FileRec, Held, Listed, NameChange, Place, Step, Who};
 use std::alloc::{AllocError, Global};
 
 /// The file at a place.
@@ -40,7 +40,7 @@ fn append_file(
 {
     if let Some(i) = index_of(files, place) {
         let held = &mut files[i];
-        held.bytes = held.bytes.with(more.inner())?;
+        held.bytes.extend(more.inner())?;
         held.ms = ms;
     }
     Ok(())

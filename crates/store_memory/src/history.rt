@@ -8,7 +8,7 @@ ghost use Rattle.store_memory.specs.Torn.{torn_at};
 
 use crate::files::{copy_files, find_file, list_files, next_files, next_pending, start_files};
 use crate::image::{Torn, settle_all, undo_some};
-use ice_store::{NameChange, Event, FileList, FileRec, Held, Items, Listed, Past, Place};
+use ice_store::{Event, FileList, FileRec, Held, Items, Listed, NameChange, Past, Place};
 use std::alloc::{AllocError, Global};
 use std::marker::Model;
 

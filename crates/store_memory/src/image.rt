@@ -6,7 +6,7 @@ ghost use Rattle.ice_store.specs.History.{undone, names_by, settled};
 ghost use Rattle.store_memory.specs.Torn.{torn_at};
 
 use crate::files::{drop_file, move_file};
-use ice_store::{Bytes, NameChange, FileRec, Held, Items, Place};
+use ice_store::{Bytes, FileRec, Held, Items, NameChange, Place};
 use std::alloc::{AllocError, Global};
 
 /// The bytes of an unsealed file after a crash.
@@ -50,7 +50,11 @@ fn undo(files: &mut Vec<Held>, change: &NameChange) -> Result<(), AllocError>
 }
 
 /// Undoes the pending changes that aren't done, the last one first.
-pub fn undo_some(files: &mut Vec<Held>, done: &[bool], pending: &[NameChange]) -> Result<(), AllocError>
+pub fn undo_some(
+    files: &mut Vec<Held>,
+    done: &[bool],
+    pending: &[NameChange],
+) -> Result<(), AllocError>
     ensures { OnOk result (files.new.items ≡ names_by done.now pending.now files.old.items) }
 {
     match (done, pending) {

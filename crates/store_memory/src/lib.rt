@@ -8,6 +8,7 @@
 mod files;
 mod history;
 mod image;
+mod neighbour;
 mod sink;
 mod sources;
 mod store;
@@ -16,6 +17,7 @@ mod tests;
 
 pub use history::History;
 pub use image::{BoolList, Choice, Torn, TornList};
+pub use neighbour::{Neighbour, Quiet};
 pub use sink::MemSink;
 pub use sources::{CountIds, FixedClock, NumberList};
 pub use store::{FailAt, FailList, MemStore};

@@ -2,7 +2,7 @@
 ghost use Rattle.std.specs.Prelude.{◌≡◌, ◌+◌, ◌-◌, ◌≤◌, ◌++◌, [], Some, IfOk, IsOk, IsTrue, ◌↔◌, length, vec_len, vec_capacity, nat_eq};
 ghost use Rattle.std.specs.List.{list_any};
 ghost use Rattle.ice_store.specs.Given.{Takes, SinkCause};
-ghost use Rattle.ice_store.specs.Others.{next_moment};
+ghost use Rattle.store_memory.specs.Neighbours.{next_moment};
 ghost use Rattle.store_memory.specs.Sinks.{taken_of, is_taken};
 
 use crate::NumberList;

@@ -1,7 +1,7 @@
 //! A clock and a source of identifiers in memory.
 ghost use Rattle.std.specs.Prelude.{◌≡◌, ◌+◌, ◌-◌, ◌<◌, ◌^◌, true, min};
 ghost use Rattle.ice_store.specs.Given.{Gives};
-ghost use Rattle.ice_store.specs.Others.{next_moment};
+ghost use Rattle.store_memory.specs.Neighbours.{next_moment};
 ghost use Rattle.store_memory.specs.Given.{told_below, moment_at, are_moments};
 
 use ice_store::{Clock, Ids, Items};

@@ -1,17 +1,18 @@
 //! A store in memory.
 ghost use Rattle.std.specs.Prelude.{◌≡◌, ◌≤◌, [], IfOk, Some, None, length};
 ghost use Rattle.ice_store.specs.History.{replay, image};
-ghost use Rattle.ice_store.specs.Others.{Acted, Answers, next_moment};
+ghost use Rattle.ice_store.specs.Others.{Acted, Answers};
 ghost use Rattle.ice_store.specs.Calls.{StepAnswer, HasCause, MarksFailure, Rose, CreateAnswer, AppendAnswer, PlainAnswer, RenameAnswer, RemoveAnswer, SizeAnswer, NamesAnswer, ReadAnswer};
 ghost use Rattle.ice_store.specs.declared.store.StoreErr.TheVariants.{Failed};
+ghost use Rattle.store_memory.specs.Neighbours.{next_moment};
 ghost use Rattle.store_memory.specs.Took.{Took};
 ghost use Rattle.store_memory.specs.Torn.{torn_at};
 ghost use Rattle.store_memory.specs.Failing.{fail_at, AsPlanned};
 
-use crate::{Choice, History};
+use crate::{Choice, History, Neighbour, Quiet};
 use ice_store::{
-    Bytes, Event, FileList, Gone, Items, ListedList, Made, Manners, Moved, Neighbour, Past, Place,
-    Quiet, Step, Store, StoreErr, Who,
+    Bytes, Event, FileList, Gone, Items, ListedList, Made, Manners, Moved, Past, Place, Step,
+    Store, StoreErr, Who,
 };
 use std::alloc::{AllocError, Global};
 
@@ -122,7 +123,7 @@ fn others_act<M: Manners, N: Neighbour<M>>(
     ensures acted { Acted (M.allows (N.manners neighbour.old)) history.old history.new }
     ensures manners { N.manners neighbour.new ≡ N.manners neighbour.old }
 {
-    let steps = neighbour.act(alloc, history.past(), *next_ms)?;
+    let steps = neighbour.act(alloc, history, *next_ms)?;
     for step in steps.inner() {
         let ms = *next_ms;
         history.add(

@@ -1,7 +1,7 @@
-use crate::{Choice, CountIds, FailAt, FixedClock, MemSink, MemStore, NumberList, Torn};
+use crate::{Choice, CountIds, FailAt, FixedClock, MemSink, MemStore, NumberList, Quiet, Torn};
 use ice_store::{
-    Alone, Bytes, Clock, Gone, Ids, Items, Made, Moved, Place, PlaceErr, Quiet, Sink, Store,
-    StoreErr, Text,
+    Alone, Bytes, Clock, Gone, Ids, Items, Made, Moved, Place, PlaceErr, Sink, Store, StoreErr,
+    Text,
 };
 use std::alloc::Global;
 use std::test::Fail;

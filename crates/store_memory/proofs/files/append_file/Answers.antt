@@ -4,10 +4,10 @@ use Rattle.ice_store.specs.History.{appended}
 use Rattle.store_memory.proofs.ChangeLaws.{changed_at, unchanged}
 use Rattle.store_memory.proofs.files.append_file.Goals as goal
 
-pub returns-in_ok-held : goal.returns-in_ok-held
-returns-in_ok-held c =
+pub returns-in_ok-extend : goal.returns-in_ok-extend
+returns-in_ok-extend c =
     let x = c.index_mut-held.result.now in
-    ap (λ (b : List ℕ). set c.args.files.now.items c.in-Some.i (record x { bytes = b; ms = c.args.ms })) (c.in_ok-held.ensures ∙ ap (λ (b : List ℕ). x.bytes ++ b) (c.deref-in-Some.ensures.value ∙ c.inner.ensures))
+    ap (λ (b : List ℕ). set c.args.files.now.items c.in-Some.i (record x { bytes = b; ms = c.args.ms })) (c.in_ok-extend.ensures.ok ∙ ap (λ (b : List ℕ). x.bytes ++ b) (c.deref-in-Some.ensures.value ∙ c.inner.ensures))
     ∙ changed_at (appended c.args.more.now c.args.ms) c.args.files.now.items c.args.place.now c.in-Some.i x (search rules) (search rules)
 
 pub returns-in_default : goal.returns-in_default

@@ -1,5 +1,6 @@
 use Rattle.std.proofs.Common.{drop}
-use Rattle.ice_store.specs.Others.{Acted, Allowed, by_them}
+use Rattle.ice_store.specs.Others.{Acted, Allowed}
+use Rattle.store_memory.specs.Neighbours.{by_them}
 use Rattle.store_memory.proofs.store.others_act.Given as goal
 
 abbrev pub invariant-loop-step : goal.invariant-loop-step
