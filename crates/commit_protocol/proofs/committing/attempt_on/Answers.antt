@@ -97,7 +97,8 @@ publish_built-requires-clause-here g c =
     let at = c.args.at in
     let meanings = g.X.Change.meanings c.args.change.now c.attempt.new.self in
     let tree : view c.in-Ok.parts.meta ≡ view at.meta = ap (λ m. view m) c.in-Ok.ensures.meta in
-    let made : MakesOf meanings (view at.meta) (Next c.in-Ok-Next.meta) = subst (λ (b : Built). MakesOf meanings (view at.meta) b) c.in-Ok-Next.field-0-is (subst (λ (d : Data). MakesOf meanings d c.attempt.result.0) tree c.in-Ok-Next.ensures.built) in
+    let built_so = subst (λ (b : Built). MakesOf meanings (view c.in-Ok.parts.meta) b) c.in-Ok-Next.field-0-is c.in-Ok-Next.ensures.built in
+    let made : MakesOf meanings (view at.meta) (Next c.in-Ok-Next.meta) = subst (λ (d : Data). MakesOf meanings d (Next c.in-Ok-Next.meta)) tree built_so in
     ap place_in made.1.location ∙ c.requires.metadata.here
 
 pub publish_built-requires-clause-limit : goal.publish_built-requires-clause-limit
@@ -106,7 +107,8 @@ publish_built-requires-clause-limit g c =
     let meanings = g.X.Change.meanings c.args.change.now c.attempt.new.self in
     let limit = c.has_version_limit.ensures.0 (grind (arith, c.if-not-has_version_limit.false)) in
     let tree : view c.in-Ok.parts.meta ≡ view at.meta = ap (λ m. view m) c.in-Ok.ensures.meta in
-    let made : MakesOf meanings (view at.meta) (Next c.in-Ok-Next.meta) = subst (λ (b : Built). MakesOf meanings (view at.meta) b) c.in-Ok-Next.field-0-is (subst (λ (d : Data). MakesOf meanings d c.attempt.result.0) tree c.in-Ok-Next.ensures.built) in
+    let built_so = subst (λ (b : Built). MakesOf meanings (view c.in-Ok.parts.meta) b) c.in-Ok-Next.field-0-is c.in-Ok-Next.ensures.built in
+    let made : MakesOf meanings (view at.meta) (Next c.in-Ok-Next.meta) = subst (λ (d : Data). MakesOf meanings d (Next c.in-Ok-Next.meta)) tree built_so in
     made.1.limit limit
 
 pub returns-in-Ok-Next-clause-told : goal.returns-in-Ok-Next-clause-told
@@ -127,7 +129,8 @@ returns-in-Ok-Next-clause-told g c =
     let r = c.publish_built.result in
     let limit = c.has_version_limit.ensures.0 (grind (arith, c.if-not-has_version_limit.false)) in
     let tree : view c.in-Ok.parts.meta ≡ view at.meta = ap (λ m. view m) c.in-Ok.ensures.meta in
-    let made : MakesOf meanings (view at.meta) (Next c.in-Ok-Next.meta) = subst (λ (b : Built). MakesOf meanings (view at.meta) b) c.in-Ok-Next.field-0-is (subst (λ (d : Data). MakesOf meanings d c.attempt.result.0) tree c.in-Ok-Next.ensures.built) in
+    let built_so = subst (λ (b : Built). MakesOf meanings (view c.in-Ok.parts.meta) b) c.in-Ok-Next.field-0-is c.in-Ok-Next.ensures.built in
+    let made : MakesOf meanings (view at.meta) (Next c.in-Ok-Next.meta) = subst (λ (d : Data). MakesOf meanings d (Next c.in-Ok-Next.meta)) tree built_so in
     let seen = subst (λ (d : Data). meanings.seen d) tree c.in-Ok-Next.ensures.seen in
     let by_manners = subst (λ m. Since p1 p2 (PublishedLeaves t (g.M.Manners.allows m) (Gives (g.I.Ids.given c.attempt.new.ids) last) c.args.now base built r)) c.in-Ok-Next.ensures.manners c.publish_built.ensures.told in
     let by_ids = subst (λ i. Since p1 p2 (PublishedLeaves t allows (Gives i last) c.args.now base built r)) c.in-Ok-Next.ensures.drawn by_manners in
@@ -149,7 +152,8 @@ returns-in-Ok-Same-clause-told g c =
     let Drawn = Gives (g.I.Ids.given c.args.ids.now) (g.I.Ids.given c.attempt.new.ids) in
     let limit = c.has_version_limit.ensures.0 (grind (arith, c.if-not-has_version_limit.false)) in
     let tree : view c.in-Ok.parts.meta ≡ view at.meta = ap (λ m. view m) c.in-Ok.ensures.meta in
-    let made : MakesOf meanings (view at.meta) Unchanged = subst (λ (b : Built). MakesOf meanings (view at.meta) b) c.in-Ok-Same.field-0-is (subst (λ (d : Data). MakesOf meanings d c.attempt.result.0) tree c.in-Ok-Same.ensures.built) in
+    let built_so = subst (λ (b : Built). MakesOf meanings (view c.in-Ok.parts.meta) b) c.in-Ok-Same.field-0-is c.in-Ok-Same.ensures.built in
+    let made : MakesOf meanings (view at.meta) Unchanged = subst (λ (d : Data). MakesOf meanings d Unchanged) tree built_so in
     let seen = subst (λ (d : Data). meanings.seen d) tree c.in-Ok-Same.ensures.seen in
     since_turned p0 p1 (Ran (metadata_rules t allows) (Exactly []) K) (AttemptLeaves t allows meanings Drawn c.args.now at (Ok (Same base.version)))
     c.in-Ok-Same.ensures.told

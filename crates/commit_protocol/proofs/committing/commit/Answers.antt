@@ -6,7 +6,7 @@ use Rattle.ice_store.specs.Since.{Since}
 use Rattle.ice_store.proofs.SinceLaws.{since_then, since_turned}
 use Rattle.commit_publish.specs.Stages.{Anything}
 use Rattle.commit_publish.specs.Left.{Notes}
-use Rattle.commit_protocol.specs.Metadata.{IsAt, OpenErrLeaves}
+use Rattle.commit_protocol.specs.Metadata.{IsAt, OpenErrLeaves, metadata_rules}
 use Rattle.commit_protocol.specs.Written.{IsNamingOf, commit_count}
 use Rattle.commit_protocol.proofs.NoteLaws.{notes_none, notes_after}
 use Rattle.commit_protocol.proofs.FailureLaws.{unknown_behind}

@@ -58,8 +58,8 @@ returns-in-Ok-publish_version-clause-told g c =
     (laws.moved_in t allows c.requires.mannered c.args.now Drawn c.args.base built c.next-id.result c.next-id.ensures w is p0 p1 r told)
     (λ old new left. laws.published_ok t allows c.requires.mannered c.args.now Drawn c.args.base built c.next-id.result c.next-id.ensures w is old new left)
 
-pub returns-clause-told : goal.returns-clause-told
-returns-clause-told g c =
+pub returns-in-Err-publish_version-clause-told : goal.returns-in-Err-publish_version-clause-told
+returns-in-Err-publish_version-clause-told g c =
     let t = c.args.table.now in
     let allows = g.M.Manners.allows (g.S.Store.manners c.args.store.now) in
     let Drawn = Gives (g.I.Ids.given c.args.ids.now) (g.I.Ids.given c.next-id.new.self) in
@@ -80,8 +80,8 @@ returns-clause-told g c =
     (λ old new left. laws.published_err t allows c.requires.mannered c.args.now Drawn c.args.base built c.next-id.result c.next-id.ensures w is old new e left) in
     subst (λ (x : CommitErr). Since p0 p1 (Leaves (Err x))) (sym error) base
 
-pub returns-clause-left : goal.returns-clause-left
-returns-clause-left g c =
+pub returns-in-Err-publish_version-clause-left : goal.returns-in-Err-publish_version-clause-left
+returns-in-Err-publish_version-clause-left g c =
     let t = c.args.table.now in
     let allows = g.M.Manners.allows (g.S.Store.manners c.args.store.now) in
     let Drawn = Gives (g.I.Ids.given c.args.ids.now) (g.I.Ids.given c.next-id.new.self) in
@@ -123,8 +123,8 @@ returns-in-Ok-publish_version-clause-noted g c =
     since_turned p0 p1 (Notes risen (IsNaming route.draft route.target) 1 [] had has) (Notes risen (IsNamingOf Drawn t) 1 [] had has) c.in-Ok-publish_version.ensures.noted
     (λ old new n. notes_named risen Drawn t route.draft route.target c.next-id.result (c.args.base.version + 1) 1 had has old new c.next-id.ensures is.draft_is is.target_is n)
 
-pub returns-clause-noted : goal.returns-clause-noted
-returns-clause-noted g c =
+pub returns-in-Err-publish_version-clause-noted : goal.returns-in-Err-publish_version-clause-noted
+returns-in-Err-publish_version-clause-noted g c =
     let t = c.args.table.now in
     let allows = g.M.Manners.allows (g.S.Store.manners c.args.store.now) in
     let p0 = g.S.Store.past c.args.store.now in
@@ -144,14 +144,14 @@ returns-in-Err-clause-fault g c place is =
     let same : c.in-Err.e ≡ attempts.Read (StoreFault place) = cc (is) in
     absurd (unwritten_plainly c.args.table.now c.args.base (view c.args.meta) c.args.now c.next-id.result c.in-Err.e place c.in-Err.ensures.err same)
 
-pub returns-clause-unopened : goal.returns-clause-unopened
-returns-clause-unopened g c opening is =
+pub returns-in-Err-publish_version-clause-unopened : goal.returns-in-Err-publish_version-clause-unopened
+returns-in-Err-publish_version-clause-unopened g c opening is =
     let error : ◌≡◌ {A = CommitErr} c.commit_error.result (Open opening) = cc (is) in
     let draft = c.in-Ok.written.route.draft in
     publish_opens_nothing c.in-Err-publish_version.e draft c.in-Ok.written.route.table (c.args.base.version + 1) opening (sym c.commit_error.ensures ∙ error)
 
-pub returns-clause-fault : goal.returns-clause-fault
-returns-clause-fault g c place is =
+pub returns-in-Err-publish_version-clause-fault : goal.returns-in-Err-publish_version-clause-fault
+returns-in-Err-publish_version-clause-fault g c place is =
     let t = c.args.table.now in
     let w = c.in-Ok.written in
     let written = c.in-Ok.ensures.ok in
@@ -161,8 +161,8 @@ returns-clause-fault g c place is =
     let told : c.commit_error.result ≡ Attempt (attempts.Read (StoreFault place)) = cc (is) in
     publish_fault (Gives (g.I.Ids.given c.args.ids.now) (g.I.Ids.given c.next-id.new.self)) t w.route.draft w.route.target c.next-id.result c.next-id.ensures written.draft_is e v place c.args.log.now.left.items c.publish.new.log.left.items c.in-Err-publish_version.ensures.left (sym error ∙ told)
 
-pub returns-clause-renamed : goal.returns-clause-renamed
-returns-clause-renamed g c version is =
+pub returns-in-Err-publish_version-clause-renamed : goal.returns-in-Err-publish_version-clause-renamed
+returns-in-Err-publish_version-clause-renamed g c version is =
     let t = c.args.table.now in
     let Drawn = Gives (g.I.Ids.given c.args.ids.now) (g.I.Ids.given c.next-id.new.self) in
     let w = c.in-Ok.written in
