@@ -1,6 +1,7 @@
 //! The command over a real directory.
-use crate::fixtures::{clock, place, shown_sink, sink, three_snapshots};
+use crate::fixtures::{clock, shown_sink, sink};
 use ice_store::{Alone, Text};
+use metadata_tests::three_snapshots;
 use std::test::Fail;
 use std::{env, fs};
 use store_directory::DirStore;
@@ -39,10 +40,7 @@ fn run_two(rt: HostRuntime) -> Result<String, Fail> {
         call_of(&rt, "two_statements", "rollback_to_snapshot", 22)?,
         call_of(&rt, "two_statements", "ancestors_of", 22)?,
     ]?;
-    let folder = env::current_dir(&rt)?;
-    let at = format!(in alloc; "{}/two_statements", folder.as_path().as_str())?;
-    let table = place(alloc, at.as_str())?;
-    let mut store = DirStore::new(rt, &table, Alone)?;
+    let mut store = DirStore::new(rt, Alone);
     let mut clock = clock(alloc)?;
     let mut out = sink(alloc)?;
     let mut err = sink(alloc)?;

@@ -1,8 +1,8 @@
 //! Tables that are refused, with their messages; nothing is written there.
 use crate::fixtures::{
-    file, no_failures, outcome, outcome_of, outcome_on, run_over, shown, sink, three_snapshots,
-    words_of,
+    file, no_failures, outcome, outcome_of, outcome_on, run_over, shown, sink, words_of,
 };
+use metadata_tests::three_snapshots;
 use std::test::Fail;
 
 fn to_11() -> &'static str {

@@ -1,9 +1,10 @@
 //! Rollbacks, on a quiet store and on one whose calls fail.
 use crate::fixtures::{
     Ran, draft, file, next, no_failures, outcome_failing, outcome_of, place, run_over, shown, sink,
-    table, three_snapshots, words_of,
+    table, words_of,
 };
 use ice_store::Place;
+use metadata_tests::three_snapshots;
 use std::test::Fail;
 
 // The table after the rollback to 11. In a function with no clause, so that no proof carries the text.

@@ -1,6 +1,7 @@
 //! Output that fails.
-use crate::fixtures::{no_failures, run_over, shown, sink, table, three_snapshots, words_of};
+use crate::fixtures::{no_failures, run_over, shown, sink, table, words_of};
 use ice_store::Items;
+use metadata_tests::three_snapshots;
 use std::alloc::Global;
 use std::test::Fail;
 use store_memory::MemSink;

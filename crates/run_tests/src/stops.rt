@@ -1,10 +1,10 @@
 //! What a stop leaves, in all its images.
 use crate::fixtures::{
-    Ran, Solo, draft, place, run_over, second_draft, sink, table, text_of, three_snapshots,
-    words_of,
+    Ran, Solo, draft, place, run_over, second_draft, sink, table, text_of, words_of,
 };
 use commit_protocol::open_table;
 use ice_store::{Alone, Bytes, Items, Place};
+use metadata_tests::three_snapshots;
 use std::alloc::Global;
 use std::test::Fail;
 use store_memory::{Choice, FailAt, Torn};

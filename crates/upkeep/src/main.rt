@@ -1,15 +1,13 @@
 //! The command `upkeep`: maintains Iceberg tables that live in plain directories.
 //!
-//! One word `--help` or `--version` is answered here. Every other list of words goes to `run`, over the table's directory,
-//! the machine's clock, identifiers from the random source and the two output streams.
+//! One word `--help` or `--version` is answered here. Every other list of words goes to `run`, over the directories
+//! of the machine, its clock, identifiers from the random source and the two output streams.
 #![tactic(auto)]
 
 ghost use Rattle.std.specs.Prelude.{◌≡◌};
 ghost use Rattle.upkeep.specs.Numbers.{number_of};
 
-use call_syntax::{ArgErr, SyntaxErr, read_statement, typed};
-use ice_store::{Alone, Place, Sink, StoreErr, Text};
-use std::alloc::{AllocError, Global};
+use ice_store::{Alone, Sink, Text};
 use std::env;
 use std::io::{self, ErrorKind};
 use std::process::ExitCode;
@@ -34,8 +32,6 @@ enum Unstarted {
     NotText,
     /// The random source failed.
     Random,
-    /// The table's place can't be a path.
-    Store,
 }
 
 impl Unstarted {
@@ -44,18 +40,11 @@ impl Unstarted {
         ensures { result ≡ number_of self }
     {
         match self {
-            Unstarted::Store => 5,
             Unstarted::Output => 7,
             Unstarted::Memory => 8,
             Unstarted::NotText => 10,
             Unstarted::Random => 11,
         }
-    }
-}
-
-impl From<AllocError> for Unstarted {
-    fn from(_: AllocError) -> Self {
-        Unstarted::Memory
     }
 }
 
@@ -97,36 +86,8 @@ fn print(rt: HostRuntime, text: &str) -> Result<u8, Unstarted> {
     }
 }
 
-// the table that a word names, and none where `run` refuses the word
-fn named_table(alloc: Global, word: &Text) -> Result<Option<Place>, AllocError> {
-    let call = match read_statement(alloc, word) {
-        Ok(call) => call,
-        Err(SyntaxErr::Bad { .. }) => return Ok(None),
-        Err(SyntaxErr::Memory) => return Err(AllocError),
-    };
-    match typed(alloc, &call) {
-        Ok(command) => Ok(Some(command.table().copy()?)),
-        Err(ArgErr::Bad { .. }) => Ok(None),
-        Err(ArgErr::Memory) => Err(AllocError),
-    }
-}
-
-// the table that the words name, or the root where they name none and no store call is made
-fn table_of(alloc: Global, words: &[Text]) -> Result<Place, Unstarted> {
-    if let Some(word) = words.first() {
-        if let Some(table) = named_table(alloc, word)? {
-            return Ok(table);
-        }
-    }
-    let root = Text::copy_of(alloc, b"/")?;
-    Place::read(alloc, &root).map_err(|_| Unstarted::Memory)
-}
-
 fn maintain(rt: HostRuntime, words: &[Text]) -> Result<u8, Unstarted> {
-    let mut store = DirStore::new(rt, &table_of(rt.alloc(), words)?, Alone).map_err(|e| match e {
-        StoreErr::Memory => Unstarted::Memory,
-        StoreErr::Failed => Unstarted::Store,
-    })?;
+    let mut store = DirStore::new(rt, Alone);
     let mut ids = RandomIds::draw(&rt).map_err(|_| Unstarted::Random)?;
     let mut clock = MachineClock::new(rt);
     let mut out = StreamSink::new(rt.stdout());

@@ -1,5 +1,6 @@
 -- What a run tells of a failed call.
 use Rattle.std.proofs.Common.{◌≡◌, ◌⊎◌, inl, inr, ℕ, Bool, true, false, List, [], Option, Ok, Err, refl, sym, ap, ◌∙◌, subst}
+use Rattle.serde_json.specs.Data.{Data}
 use Rattle.ice_store.specs.Given.{Gives}
 use Rattle.ice_store.specs.Places.{Parts}
 use Rattle.ice_store.specs.Since.{Since}
@@ -20,7 +21,7 @@ use Rattle.commit_protocol.specs.declared.errors.CommitErr.TheVariants.{Open, At
 use Rattle.run_answers.specs.Answers.{status_of}
 use Rattle.run_answers.specs.declared.status.Status.{Status}
 use Rattle.run_answers.specs.declared.status.Status.TheVariants as statuses
-use Rattle.run_refs.specs.Moves.{RefusesMove}
+use Rattle.run_refs.specs.Meanings.{moves_of}
 use Rattle.run_refs.specs.declared.goal.Goal.{Goal}
 use Rattle.upkeep_top.specs.Points.{Point}
 use Rattle.upkeep_top.specs.Runs.{RanAsked, AskOf, TellsFaultAt, TellsUnknown}
@@ -57,9 +58,9 @@ module _ (table : Parts) (Drawn : ℕ → Type 0) (had has : List Parts) (o a : 
   }
 
 -- a move refuses no base with a fault
-pub move_fault : (goal : Goal) (Drawn : ℕ → Type 0) (table place : Parts) (had has : List Parts) → TellsFault (RefusesMove goal) Drawn table place had has → IsFaultOf Drawn table place had has
-move_fault goal Drawn table place had has (inl refused) = absurd refused.1
-move_fault goal Drawn table place had has (inr of) = of
+pub move_fault : (goal : Goal) (now : ℕ) (Seen : Data → Type 0) (Drawn : ℕ → Type 0) (table place : Parts) (had has : List Parts) → TellsFault (moves_of goal now Seen) Drawn table place had has → IsFaultOf Drawn table place had has
+move_fault goal now Seen Drawn table place had has (inl refused) = absurd refused.1
+move_fault goal now Seen Drawn table place had has (inr of) = of
 
 -- The end of a statement with such a status.
 

@@ -9,9 +9,9 @@ use Rattle.ice_store.proofs.SinceLaws.{since_then, since_start}
 use Rattle.ice_store.specs.declared.history.Held.{Held}
 use Rattle.ice_store.specs.declared.history.Past.{Past}
 use Rattle.ice_store.specs.declared.faults.ReadErr.TheVariants.{Missing, Damaged, Unsupported, StoreFault as Fault, Memory}
-use Rattle.table_metadata.specs.View.{snapshots_of, current_of}
-use Rattle.table_metadata.specs.Walk.{snapshot_with}
-use Rattle.table_metadata.specs.declared.types.Snapshot.{Snapshot}
+use Rattle.metadata_view.specs.View.{snapshots_of, current_of}
+use Rattle.metadata_view.specs.Walk.{snapshot_with}
+use Rattle.metadata_view.specs.declared.types.Snapshot.{Snapshot}
 use Rattle.commit_publish.specs.Stages.{Anything}
 use Rattle.commit_versions.specs.declared.types.OpenErr.TheVariants as opens
 use Rattle.commit_protocol.specs.declared.errors.Refusal.{Refusal}

@@ -12,9 +12,10 @@ use Rattle.ice_store.specs.declared.history.Who.{Who}
 use Rattle.ice_store.specs.declared.history.Who.TheVariants.{Us, Them}
 use Rattle.commit_history.specs.Commits.{is_sync}
 use Rattle.commit_history.specs.Runs.{AllProper, IsProperBy, Ran, ours, ours_by}
-use Rattle.commit_history.specs.Tables.{GoodBy, ReachBy}
+use Rattle.commit_history.specs.Readings.{Reading, Rules}
 use Rattle.commit_history.proofs.Running.{ours-append}
-use Rattle.commit_publish.specs.Stages.{Begun, BegunFill, Then, Partly, Reaching, draft_plan, fill_plan}
+use Rattle.commit_publish.specs.Stages.{Begun, BegunFill, Then, Partly, Reaching, draft_plan, fill_plan, move_plan, drop_plan}
+use Rattle.commit_publish.specs.declared.steps.Route.{Route}
 use Rattle.upkeep_top.specs.Promises.{version_by, renamed_to, versions_of, Publishes}
 use Rattle.upkeep_top.specs.Statements.{Nobody}
 
@@ -35,15 +36,19 @@ sync_settles Us d (Rename from to) e = absurd (cc (e))
 sync_settles Us d (Remove place) e = absurd (cc (e))
 sync_settles Us d SyncNames e = refl
 
-module _ (number : Parts → ℕ) where
-  by_us : (past : Past) (who : Who) (step : Step) → IsProperBy number Nobody who step past → who ≡ Us
+-- where nobody else acts
+abbrev pub alone : Reading → Rules
+alone reading = record { reading = reading; allows = Nobody }
+
+module _ (reading : Reading) where
+  by_us : (past : Past) (who : Who) (step : Step) → IsProperBy (alone reading) who step past → who ≡ Us
   by_us past Us step proper = refl
   by_us past Them step proper = absurd proper
 
   ours_us : (e : Event) (es : List Event) → e.who ≡ Us → ours (e ∷ es) ≡ e.step ∷ ours es
   ours_us e es h = ap (λ (w : Who). ours_by w e.step (ours es)) h
 
-  pub settled : (past : Past) (es : List Event) → AllProper number Nobody past es → ends_in_sync (ours es) ≡ true → (replay (later past es)).pending ≡ []
+  pub settled : (past : Past) (es : List Event) → AllProper (alone reading) past es → ends_in_sync (ours es) ≡ true → (replay (later past es)).pending ≡ []
   settled past [] proper ends = absurd (cc (ends))
   settled past (e ∷ []) proper ends =
       let here : is_sync e.step ≡ true = subst (λ (l : List Step). ends_in_sync l ≡ true) (ours_us e [] (by_us past e.who e.step proper.0)) ends in
@@ -56,8 +61,9 @@ module _ (number : Parts → ℕ) where
       let rest : ends_in_sync (ours (f ∷ es)) ≡ true = subst (λ (l : List Step). ends_in_sync l ≡ true) (sym two) both in
       subst (λ (p : Past). (replay p).pending ≡ []) (later-later past (e ∷ []) (f ∷ es)) (settled next (f ∷ es) proper.1 rest)
 
-  -- Versions.
+-- Versions.
 
+module _ (number : Parts → ℕ) where
   pub versions-append : (a b : List Step) → versions_of number (a ++ b) ≡ versions_of number a ++ versions_of number b
   versions-append [] b = refl
   versions-append (s ∷ a) b = ap (λ (l : List ℕ). renamed_to number s ++ l) (versions-append a b) ∙ sym (append_assoc (renamed_to number s) (versions_of number a) (versions_of number b))
@@ -73,8 +79,8 @@ module _ (number : Parts → ℕ) where
   pub publishes_none : (old new : Past) → new ≡ old → Publishes number old new []
   publishes_none old new same = record { events = []; is = same ∙ sym (later-nil old); versions_are = refl }
 
-  pub publishes_by : (Good : GoodBy) (Reached : ReachBy) (Made : List Step → Type 0) (K : Past → Type 0) (old new : Past) (run : Ran number Good Reached Nobody Made K old new) → Publishes number old new (versions_of number (ours run.events))
-  publishes_by Good Reached Made K old new run = record { events = run.events; is = run.is; versions_are = refl }
+  pub publishes_by : (rules : Rules) (Made : List Step → Type 0) (K : Past → Type 0) (old new : Past) (run : Ran rules Made K old new) → Publishes number old new (versions_of number (ours run.events))
+  publishes_by rules Made K old new run = record { events = run.events; is = run.is; versions_are = refl }
 
   none_left : (vs ws : List ℕ) → vs ++ ws ≡ [] → vs ≡ []
   none_left [] ws e = refl
@@ -98,24 +104,24 @@ module _ (number : Parts → ℕ) where
   then_none : (first : List Step) (P : List Step → Type 0) (steps : List Step) → versions_of number first ≡ [] → ((l : List Step) → P l → versions_of number l ≡ []) → Then first P steps → versions_of number steps ≡ []
   then_none first P steps none rest t = ap (versions_of number) t.is ∙ versions-append first t.rest ∙ ap (λ (l : List ℕ). l ++ versions_of number t.rest) none ∙ rest t.rest t.then
 
-  pub partly_none : (draft : Parts) (bytes : List ℕ) (steps : List Step) → Partly draft bytes steps → versions_of number steps ≡ []
-  partly_none draft bytes steps (inl b) = begun_none (Create draft ∷ []) steps refl b
-  partly_none draft bytes steps (inr (inl t)) = then_none (Create draft ∷ []) (BegunFill draft bytes) steps refl (filled_none draft bytes) t
-  partly_none draft bytes steps (inr (inr t)) = then_none (draft_plan draft bytes) (Begun (Remove draft ∷ SyncNames ∷ [])) steps refl (λ l b. begun_none (Remove draft ∷ SyncNames ∷ []) l refl b) t
+  pub partly_none : (route : Route) (bytes : List ℕ) (steps : List Step) → Partly route bytes steps → versions_of number steps ≡ []
+  partly_none route bytes steps (inl b) = begun_none (Create route.draft ∷ []) steps refl b
+  partly_none route bytes steps (inr (inl t)) = then_none (Create route.draft ∷ []) (BegunFill route.draft bytes) steps refl (filled_none route.draft bytes) t
+  partly_none route bytes steps (inr (inr t)) = then_none (draft_plan route.draft bytes) (Begun (drop_plan route)) steps refl (λ l b. begun_none (drop_plan route) l refl b) t
 
   version_is : (n : ℕ) → 0 < n → version_by n ≡ n ∷ []
   version_is zero pos = absurd (omega (arith, pos))
   version_is (suc n) pos = refl
 
   -- the version of a rename to a place with this number
-  pub renamed_one : (draft target : Parts) (v : ℕ) → number target ≡ v → 0 < v → versions_of number (Rename draft target ∷ SyncNames ∷ []) ≡ v ∷ []
-  renamed_one draft target v is pos = append-nil (version_by (number target)) ∙ ap version_by is ∙ version_is v pos
+  pub renamed_one : (route : Route) (v : ℕ) → number route.target ≡ v → 0 < v → versions_of number (move_plan route) ≡ v ∷ []
+  renamed_one route v is pos = append-nil (version_by (number route.target)) ∙ ap version_by is ∙ version_is v pos
 
-  pub published_one : (draft target : Parts) (bytes : List ℕ) (v : ℕ) → number target ≡ v → 0 < v → versions_of number (draft_plan draft bytes ++ (Rename draft target ∷ SyncNames ∷ [])) ≡ v ∷ []
-  published_one draft target bytes v is pos = renamed_one draft target v is pos
+  pub published_one : (route : Route) (bytes : List ℕ) (v : ℕ) → number route.target ≡ v → 0 < v → versions_of number (draft_plan route.draft bytes ++ move_plan route) ≡ v ∷ []
+  published_one route bytes v is pos = renamed_one route v is pos
 
-  pub reaching_one : (draft target : Parts) (bytes : List ℕ) (v : ℕ) (steps : List Step) → number target ≡ v → 0 < v → Reaching draft bytes target steps → (versions_of number steps ≡ []) ⊎ (versions_of number steps ≡ v ∷ [])
-  reaching_one draft target bytes v steps is pos t =
+  pub reaching_one : (route : Route) (bytes : List ℕ) (v : ℕ) (steps : List Step) → number route.target ≡ v → 0 < v → Reaching route bytes steps → (versions_of number steps ≡ []) ⊎ (versions_of number steps ≡ v ∷ [])
+  reaching_one route bytes v steps is pos t =
       let all : versions_of number steps ≡ versions_of number t.rest = ap (versions_of number) t.is in
-      let parts : versions_of number t.rest ++ versions_of number t.then.rest ≡ v ∷ [] = sym (versions-append t.rest t.then.rest) ∙ ap (versions_of number) (sym t.then.is) ∙ renamed_one draft target v is pos in
+      let parts : versions_of number t.rest ++ versions_of number t.then.rest ≡ v ∷ [] = sym (versions-append t.rest t.then.rest) ∙ ap (versions_of number) (sym t.then.is) ∙ renamed_one route v is pos in
       elim (one_left v (versions_of number t.rest) (versions_of number t.then.rest) parts) [ inl none ↦ inl (all ∙ none) | inr one ↦ inr (all ∙ one) ]

@@ -5,12 +5,10 @@ use Rattle.ice_store.specs.Others.{WhereTold}
 use Rattle.ice_store.specs.Since.{Since}
 use Rattle.ice_store.proofs.SinceLaws.{since_turned, since_then, since_start}
 use Rattle.ice_store.specs.declared.history.Past.{Past}
-use Rattle.commit_history.specs.Versions.{number_in}
 use Rattle.commit_history.proofs.Numbering.{numbering}
 use Rattle.commit_history.proofs.Running.{ran_then, ran_turned, begins}
-use Rattle.commit_publish.specs.Stages.{Narrow, NoReach, Anything}
-use Rattle.commit_publish.proofs.Narrow.{narrow_local}
-use Rattle.commit_protocol.specs.Metadata.{IsTableOf}
+use Rattle.commit_publish.specs.Stages.{Anything}
+use Rattle.commit_protocol.specs.Metadata.{metadata_local, metadata_rules}
 use Rattle.run_answers.specs.declared.status.Status.{Status}
 use Rattle.run_answers.specs.declared.status.Status.TheVariants.{Done}
 use Rattle.upkeep_top.specs.Points.{Point}
@@ -26,10 +24,10 @@ told_any (Some past) = tt
 
 -- a stretch in which nothing was done is safe
 pub safe_none : (table : Parts) (old : Past) → IsSafeFor table old old
-safe_none table old = ran_turned (number_in table) (Narrow IsTableOf table) NoReach Nobody (λ l. l ≡ []) Any Anything Anything old old (begins (number_in table) (Narrow IsTableOf table) NoReach Nobody (numbering table) (narrow_local IsTableOf table) Anything old tt) (λ l e. tt) (λ h. tt)
+safe_none table old = ran_turned (metadata_rules table Nobody) (λ l. l ≡ []) Any Anything Anything old old (begins (metadata_rules table Nobody) (numbering table) (metadata_local table) Anything old tt) (λ l e. tt) (λ h. tt)
 
 safe_then : (table : Parts) (old mid new : Past) → IsSafeFor table old mid → IsSafeFor table mid new → IsSafeFor table old new
-safe_then table old mid new a b = ran_then (number_in table) (Narrow IsTableOf table) NoReach Nobody Any Any Any Anything Anything (λ l k m n. tt) old mid new a b
+safe_then table old mid new a b = ran_then (metadata_rules table Nobody) Any Any Any Anything Anything (λ l k m n. tt) old mid new a b
 
 module _ (table : Parts) where
   ends_safe : (t : Task) (status : Status) (p q : Point) → t.table ≡ table → Ends t status p q → Since p.past q.past (IsSafeFor table)

@@ -21,12 +21,13 @@ use Rattle.run_answers.specs.Answers.{status_of}
 use Rattle.run_answers.specs.declared.status.Status.{Status}
 use Rattle.run_answers.specs.declared.status.Status.TheVariants as statuses
 use Rattle.run_refs.specs.Ancestors.{Lists}
-use Rattle.run_refs.specs.Moves.{Moves, IsThere, RefusesMove}
+use Rattle.run_refs.specs.Meanings.{moves_of}
+use Rattle.run_refs.specs.Moves.{RefusesMove}
 use Rattle.run_refs.specs.declared.goal.Goal.{Goal}
 use Rattle.run_refs.proofs.AimLaws.{one_successor, moves_or_is_there, one_refusal, not_both}
 use Rattle.run_refs.proofs.ListingLaws.{lists_or_lacks}
 use Rattle.upkeep_top.specs.Statements.{AnswersBy}
-use Rattle.upkeep_top.specs.Verdicts.{End, HasListing, RefusesList, ListVerdict, WorkVerdict, TaskVerdict, end_status, IsFree}
+use Rattle.upkeep_top.specs.Verdicts.{End, HasListing, RefusesList, ListVerdict, WorkVerdict, TaskVerdict, Unasked, end_status, IsFree}
 use Rattle.upkeep_top.specs.declared.task.Task.{Task}
 use Rattle.upkeep_top.specs.declared.task.Work.{Work}
 use Rattle.upkeep_top.specs.declared.task.Work.TheVariants.{Move, List as Listing}
@@ -43,7 +44,7 @@ plain goal tree (attempts.Read (Unsupported place what)) r = absurd r
 plain goal tree (attempts.Read (Fault place)) r = absurd r
 plain goal tree (attempts.Read Memory) r = tt
 
-decided : (goal : Goal) (now : ℕ) → IsDecided (Moves goal now) (IsThere goal) (RefusesMove goal)
+decided : (goal : Goal) (now : ℕ) → IsDecided (moves_of goal now Unasked)
 decided goal now = record {
   plain = plain goal;
   one_refusal = λ tree r s a b. one_refusal goal tree r s a b;
@@ -141,7 +142,7 @@ module _ (given : Option ℤ) (table : Parts) (files : List Held) where
 -- A statement.
 
 one_by_work : (work : Work) (now : ℕ) (Drawn : ℕ → Type 0) (table : Parts) (files : List Held) → IsOneDrawn Drawn → (r s : End) → IsTold r → IsTold s → WorkVerdict work now Drawn table files r → WorkVerdict work now Drawn table files s → r ≡ s
-one_by_work (Move goal) now Drawn table files one r s told_r told_s v w = one_commit_of table now (Moves goal now) (IsThere goal) (RefusesMove goal) Drawn (decided goal now) one files r s told_r told_s v w
+one_by_work (Move goal) now Drawn table files one r s told_r told_s v w = one_commit_of table now (moves_of goal now Unasked) Drawn (decided goal now) one files r s told_r told_s v w
 one_by_work (Listing given) now Drawn table files one r s told_r told_s v w = one_list given table files r s told_r told_s v w
 
 pub one_end : (task : Task) (now : ℕ) (Drawn : ℕ → Type 0) (files : List Held) → IsOneDrawn Drawn → (r s : End) → IsTold r → IsTold s → TaskVerdict task now Drawn files r → TaskVerdict task now Drawn files s → r ≡ s

@@ -12,14 +12,13 @@ use Rattle.ice_store.specs.declared.history.Past.{Past}
 use Rattle.ice_store.specs.declared.history.Step.{Step}
 use Rattle.ice_store.specs.declared.faults.ReadErr.TheVariants.{StoreFault}
 use Rattle.commit_history.specs.Runs.{Ran}
-use Rattle.commit_history.specs.Versions.{number_in}
 use Rattle.commit_publish.specs.Left.{Notes}
-use Rattle.commit_publish.specs.Stages.{Narrow, NoReach, Anything}
+use Rattle.commit_publish.specs.Stages.{Anything}
 use Rattle.commit_versions.specs.Opening.{OpenFaultAt}
 use Rattle.commit_versions.specs.declared.types.OpenErr.{OpenErr}
 use Rattle.commit_protocol.specs.Causes.{CommitRose}
 use Rattle.commit_protocol.specs.Failures.{IsFaultOf, IsUnknownEnd}
-use Rattle.commit_protocol.specs.Metadata.{IsTableOf}
+use Rattle.commit_protocol.specs.Metadata.{metadata_rules}
 use Rattle.commit_protocol.specs.Verdicts.{IsIdle}
 use Rattle.commit_protocol.specs.Written.{CommitLeft, IsNamingOf, commits, commit_count}
 use Rattle.commit_protocol.specs.declared.errors.AttemptErr.TheVariants as attempts
@@ -46,7 +45,7 @@ Any steps = Unit {0}
 
 -- from the old history to the new one each step of ours was proper for this table, sealed version files stayed, and each stop was safe
 abbrev pub IsSafeFor : Parts → Past → Past → Type 0
-IsSafeFor table = Ran (number_in table) (Narrow IsTableOf table) NoReach Nobody Any Anything
+IsSafeFor table = Ran (metadata_rules table Nobody) Any Anything
 
 -- the ends of a statement whose work is done
 abbrev pub IsEnd : Status → Type 0

@@ -17,7 +17,7 @@ use Rattle.run_answers.specs.Answers.{status_of}
 use Rattle.run_answers.specs.declared.status.Status.{Status}
 use Rattle.run_answers.specs.declared.status.Status.TheVariants as statuses
 use Rattle.run_refs.specs.Ancestors.{Lists}
-use Rattle.run_refs.specs.Moves.{Moves, IsThere, RefusesMove}
+use Rattle.run_refs.specs.Meanings.{moves_of}
 use Rattle.run_refs.specs.declared.ancestors.Ancestor.{Ancestor}
 use Rattle.upkeep_top.specs.declared.task.Task.{Task}
 use Rattle.upkeep_top.specs.declared.task.Work.{Work}
@@ -70,9 +70,13 @@ ListVerdict given table files (Err (Attempt (attempts.Read Memory))) = Unit {0}
 ListVerdict given table files (Err (Contended v)) = ⊥
 ListVerdict given table files (Err (CommitUnknown v)) = ⊥
 
+-- nothing is said of what was kept of a base
+abbrev pub Unasked : Data → Type 0
+Unasked tree = Unit {0}
+
 -- the verdict of the work on a table with these files
 abbrev pub WorkVerdict : Work → ℕ → (ℕ → Type 0) → Parts → List Held → End → Type 0
-WorkVerdict (Move goal) now Drawn table files end = CommitVerdict (Moves goal now) (IsThere goal) (RefusesMove goal) Drawn table now files end
+WorkVerdict (Move goal) now Drawn table files end = CommitVerdict (moves_of goal now Unasked) Drawn table now files end
 WorkVerdict (Listing given) now Drawn table files end = ListVerdict given table files end
 
 -- the cause of a statement's end: its work, the moment at which it is run, and the identifiers that are drawn

@@ -118,7 +118,7 @@ returns g c =
       committed = e.committed;
       left = e.left;
       noted = e.noted;
-      fails = record { opening = e.opening; fault = λ place is. move_fault r.goal Drawn w.table place c.args.log.now.left.items c.commit.new.log.left.items (e.fault place is); renamed = e.renamed };
+      fails = record { opening = e.opening; fault = λ place is. move_fault r.goal r.now (λ (tree : Data). (s.goal ≡ r.goal) × HasSeen r.goal tree s.previous s.id) Drawn w.table place c.args.log.now.left.items c.commit.new.log.left.items (e.fault place is); renamed = e.renamed };
       faults = e.cause;
       later = e.later;
       output_faults = λ d. absurd (no_output_is w.word c.in-Err.e status c.status_of_error.ensures d);
