@@ -26,7 +26,7 @@ abbrev pub table_at : (Parts → ℕ) → ℕ → List Held → Option (List ℕ
 table_at number zero files = None
 table_at number (suc n) files = sealed_bytes (first (λ held. nat_eq (number held.place) (suc n)) files)
 
--- the table: the bytes of the version's file, none at version 0. In an image and in a whole map every version file is sealed
+-- the table: the bytes of the version's file where it is sealed, none at version 0
 abbrev pub table : (Parts → ℕ) → List Held → Option (List ℕ)
 table number files = table_at number (version number files) files
 

@@ -253,7 +253,7 @@ pub record IsDecided (meanings : Meanings) : Type 0 where
   pub built_or_refused : (tree built : Data) (r : Refusal) → meanings.successor tree built → meanings.refuses tree (attempts.Refused r) → ⊥
   pub same_or_refused : (tree : Data) (r : Refusal) → meanings.same tree → meanings.refuses tree (attempts.Refused r) → ⊥
 
--- at most one identifier was drawn
+-- all identifiers that are told as drawn are one; of a source that tells nothing it may be none or any
 abbrev pub IsOneDrawn : (ℕ → Type 0) → Type 0
 IsOneDrawn Drawn = (a b : ℕ) → Drawn a → Drawn b → a ≡ b
 

@@ -33,7 +33,7 @@ abbrev pub CallRose : {T : Type 0} → Result T StepErr → ℕ → ℕ → Type
 CallRose (Ok x) before now = Unit {0}
 CallRose (Err e) before now = RoseBy e.cause before now
 
--- no event of ours follows a failed call: the mark is as it was, or it counts all events that there are
+-- no event follows a failed call, of ours or of others: after Ok the mark is as it was, else it may count all events that there are
 abbrev pub Halts : {T E : Type 0} → Result T E → Option ℕ → Option ℕ → Option Past → Type 0
 Halts (Ok x) before now told = now ≡ before
 Halts (Err e) before now told = (now ≡ before) ⊎ WhereTold told (λ past. now ≡ Some (length past.events))

@@ -47,7 +47,7 @@ abbrev pub made_by : ℕ → List Parts → List Step → List Parts
 made_by count places [] = places
 made_by count places (step ∷ steps) = made_by (count_after count step) (places_after count places step) steps
 
--- the place that a failed step names and that wouldn't stand there otherwise
+-- the place that a step names, and that stands there though no step that was taken put it there
 abbrev pub IsOfStep : Step → List Parts → Type 0
 IsOfStep (Create place) more = more ≡ place ∷ []
 IsOfStep (Append place bytes) more = ⊥
@@ -56,7 +56,7 @@ IsOfStep (Rename from to) more = more ≡ to ∷ []
 IsOfStep (Remove place) more = more ≡ place ∷ []
 IsOfStep SyncNames more = ⊥
 
--- no further place, or one of a step that was tried and failed, where the count of faults rose
+-- no further place; or, where the count of faults rose, one that a step of this kind would name, taken or not
 abbrev pub IsMore : Type 0 → (Step → Type 0) → List Parts → Type 0
 IsMore Risen Tried more = (more ≡ []) ⊎ (Risen × ((failed : Step) × Tried failed × IsOfStep failed more))
 

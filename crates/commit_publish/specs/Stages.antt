@@ -35,7 +35,7 @@ pub record Aim (number : Parts → ℕ) (route : Route) : Type 0 where
   pub based : 0 < number route.base
   pub next : number route.target ≡ number route.base + 1
 
--- the base is the last version, or the target is taken
+-- what is pending, and what stands of the draft; and the base is the last version, or the target is taken
 pub record Stage (number : Parts → ℕ) (route : Route) (Pending : List NameChange → Type 0) (File : List Held → Type 0) (d : Disk) : Type 0 where
   pub pending : Pending d.pending
   pub last_or_taken : (version number d.files ≡ number route.base) ⊎ (is_named d.files route.target ≡ true)

@@ -185,11 +185,11 @@ module _ (rules : Rules) where
   OpenLeaves table (Err (LocationDiffers place location)) old now = ⊥
   OpenLeaves table (Err (Read e)) old now = ReadErrLeaves e old now
 
--- what an opening asks the store for: its metadata's folder, or a version's place
+-- a place that an opening may ask the store for: the metadata's folder, or any version's place
 abbrev pub IsAskedFor : Parts → Parts → Type 0
 IsAskedFor table place = (place ≡ table ++ folder ∷ []) ⊎ (0 < number_in table place)
 
--- the place of a fault is that of the call that failed
+-- a fault of the store is told at a place that an opening may ask for, though not always that of the call that failed
 abbrev pub FaultAt : Parts → ReadErr → Type 0
 FaultAt table (Missing place) = Unit {0}
 FaultAt table (Damaged place at) = Unit {0}
@@ -197,7 +197,7 @@ FaultAt table (Unsupported place what) = Unit {0}
 FaultAt table (StoreFault place) = IsAskedFor table place
 FaultAt table Memory = Unit {0}
 
--- so is that of an opening
+-- so is a fault by which an opening ended
 abbrev pub OpenFaultAt : Parts → OpenErr → Type 0
 OpenFaultAt table (NoTable place) = Unit {0}
 OpenFaultAt table (LocationDiffers place location) = Unit {0}

@@ -73,7 +73,7 @@ pub record Took (P : List Step → Type 0) (old new : Past) : Type 0 where
   pub is : new ≡ later old events
   pub steps : P (ours events)
 
--- the steps of a statement whose work is done: none, or those of one publish
+-- the steps of a statement whose work is done: none, or those of one publish, of any draft, target and bytes; of another end any
 abbrev pub DoneSteps : End → List Step → Type 0
 DoneSteps (Ok (Same v)) steps = steps ≡ []
 DoneSteps (Ok (Published v)) steps = (draft : Parts) × (target : Parts) × (bytes : List ℕ) × (steps ≡ draft_plan draft bytes ++ (Rename draft target ∷ SyncNames ∷ []))

@@ -115,7 +115,7 @@ KeepsPrefix words old new = (table : Parts) → AskOf words table → StopsHaveP
 abbrev pub KeepsFiles : List (List ℕ) → Past → Past → Type 0
 KeepsFiles words old new = (table : Parts) → AskOf words table → StopsHaveFiles table old new
 
--- a statement of the words published this version, as a successor of the one before it
+-- this version is a successor of the one before it, by a move of the table that the words name
 pub record PublishedBy (words : List (List ℕ)) (v : ℕ) (old new : Past) : Type 0 where
   pub table : Parts
   pub asked : AskOf words table

@@ -87,7 +87,7 @@ pub record Did (task : Task) (now : ℕ) (Drawn : ℕ → Type 0) (end : End) (s
   pub succeeded : HasSucceeded task now end old new
   pub report : ReportedBy task before after status (replay old).files end
 
--- no event of ours follows a failed store call: the mark is as it was, or it counts all events that there are
+-- no event follows a failed store call: the mark is as it was, or it counts all events that there are
 abbrev pub Halts : Option ℕ → Option ℕ → Option Past → Type 0
 Halts before now told = (now ≡ before) ⊎ WhereTold told (λ past. now ≡ Some (length past.events))
 
