@@ -4,10 +4,10 @@ use Rattle.std.specs.Prelude.{not, codes}
 use Rattle.std.specs.List.{flat_map, list_all, AllByRecursion}
 use Rattle.std.proofs.lemmas.List.{map-append}
 use Rattle.std.proofs.lemmas.Bool.{and_parts, not-true}
-use Rattle.call_tokens.specs.declared.token.Token.{Token}
-use Rattle.call_tokens.specs.declared.token.Token.TheVariants as tokens
-use Rattle.call_tokens.specs.Characters.{begins_word, ends_word, first_is}
-use Rattle.call_tokens.specs.Spelling.{is_plain, IsNumber}
+use Rattle.call_text.specs.declared.token.Token.{Token}
+use Rattle.call_text.specs.declared.token.Token.TheVariants as tokens
+use Rattle.call_text.specs.Characters.{begins_word, ends_word, first_is}
+use Rattle.call_text.specs.Spelling.{is_plain, IsNumber}
 use Rattle.call_text.specs.Statement.{CutsFrom}
 use Rattle.call_text.specs.Writing.{Piece, plain}
 use Rattle.call_text.specs.declared.call.Call.{Call}

@@ -4,9 +4,9 @@ use Rattle.std.proofs.lemmas.List.{append-nil}
 use Rattle.std.specs.Option.{option_map}
 use Rattle.std.proofs.lemmas.Option.{option_and_then_some}
 use Rattle.std.specs.Prelude.{option_and_then, codes}
-use Rattle.call_tokens.specs.declared.token.Token.{Token}
-use Rattle.call_tokens.specs.declared.token.Token.TheVariants as tokens
-use Rattle.call_tokens.specs.declared.token.Token.TheVariants.{Dot, Comma, Open, Close, Arrow, Semicolon}
+use Rattle.call_text.specs.declared.token.Token.{Token}
+use Rattle.call_text.specs.declared.token.Token.TheVariants as tokens
+use Rattle.call_text.specs.declared.token.Token.TheVariants.{Dot, Comma, Open, Close, Arrow, Semicolon}
 use Rattle.call_text.specs.declared.call.Call.{Call}
 use Rattle.call_text.specs.declared.call.Arg.{Arg}
 use Rattle.call_text.specs.declared.call.ArgValue.{ArgValue}

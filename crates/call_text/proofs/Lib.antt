@@ -7,3 +7,8 @@ pub mod Unambiguous
 pub mod Written
 pub mod Again
 pub mod Readable
+pub mod Positions
+pub mod Shorter
+pub mod Longest
+pub mod Spelled
+pub mod Found

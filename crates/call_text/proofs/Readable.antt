@@ -2,10 +2,10 @@
 use Rattle.std.proofs.Common.{IfOk, Result, Ok, Err, ◌≡◌, ℕ, Bool, false, List, [], ◌∷◌, ◌++◌, drop, Option, Some, None, sym, ◌∙◌, ap, subst, arith, inl, inr}
 use Rattle.std.specs.List.{flat_map, AllByRecursion}
 use Rattle.std.proofs.lemmas.Bool.Decides.{nat_tests}
-use Rattle.call_tokens.specs.declared.token.Token.{Token}
-use Rattle.call_tokens.specs.declared.token.Token.TheVariants as tokens
-use Rattle.call_tokens.specs.Characters.{ends_word, is_backquote}
-use Rattle.call_tokens.specs.Spelling.{IsWord, IsNumber, IsSpelled}
+use Rattle.call_text.specs.declared.token.Token.{Token}
+use Rattle.call_text.specs.declared.token.Token.TheVariants as tokens
+use Rattle.call_text.specs.Characters.{ends_word, is_backquote}
+use Rattle.call_text.specs.Spelling.{IsWord, IsNumber, IsSpelled}
 use Rattle.call_text.specs.Statement.{past_blanks, CutsFrom}
 use Rattle.call_text.specs.declared.call.Call.{Call}
 use Rattle.call_text.specs.declared.error.SyntaxErr.{SyntaxErr}

@@ -5,11 +5,11 @@ use Rattle.std.specs.Option.{option_map}
 use Rattle.std.specs.List.{position_or_len}
 use Rattle.std.proofs.lemmas.List.{length-drop}
 use Rattle.std.proofs.lemmas.Option.{same_Some, option_and_then_some}
-use Rattle.call_tokens.specs.declared.token.Token.{Token}
-use Rattle.call_tokens.specs.Cutting.{token_of}
-use Rattle.call_tokens.specs.Spelling.{IsFirstToken}
-use Rattle.call_tokens.proofs.Spelled.{first_token, token_first}
-use Rattle.call_tokens.proofs.Shorter.{token_shorter, mapped}
+use Rattle.call_text.specs.declared.token.Token.{Token}
+use Rattle.call_text.specs.Cutting.{token_of}
+use Rattle.call_text.specs.Spelling.{IsFirstToken}
+use Rattle.call_text.proofs.Spelled.{first_token, token_first}
+use Rattle.call_text.proofs.Shorter.{token_shorter, mapped}
 use Rattle.call_text.specs.declared.call.Call.{Call}
 use Rattle.call_text.specs.declared.state.State.{State}
 use Rattle.call_text.specs.declared.state.State.TheVariants as states

@@ -3,10 +3,10 @@ use Rattle.std.proofs.Common.{◌≡◌, ℕ, zero, suc, Option, None, ◌-◌, 
 use Rattle.std.specs.Prelude.{◌⊎◌, IfOk}
 use Rattle.std.proofs.lemmas.List.{append-nil}
 use Rattle.std.proofs.lemmas.Option.{same_Some}
-use Rattle.call_tokens.specs.declared.token.Token.{Token}
-use Rattle.call_tokens.specs.Cutting.{token_of}
-use Rattle.call_tokens.specs.Spelling.{IsFirstToken}
-use Rattle.call_tokens.proofs.Spelled.{token_first}
+use Rattle.call_text.specs.declared.token.Token.{Token}
+use Rattle.call_text.specs.Cutting.{token_of}
+use Rattle.call_text.specs.Spelling.{IsFirstToken}
+use Rattle.call_text.proofs.Spelled.{token_first}
 use Rattle.call_text.specs.declared.call.Call.{Call}
 use Rattle.call_text.specs.declared.error.SyntaxErr.{SyntaxErr}
 use Rattle.call_text.specs.declared.error.SyntaxErr.TheVariants as errors

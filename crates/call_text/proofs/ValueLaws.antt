@@ -4,9 +4,9 @@ use Rattle.std.specs.List.{flat_map}
 use Rattle.std.proofs.lemmas.Option.{same_Some, option_and_then_some}
 use Rattle.std.proofs.lemmas.Grind.{flat_map-append}
 use Rattle.call_text.proofs.KeywordLaws.{keyword_is}
-use Rattle.call_tokens.specs.declared.token.Token.{Token}
-use Rattle.call_tokens.specs.declared.token.Token.TheVariants as tokens
-use Rattle.call_tokens.specs.declared.token.Token.TheVariants.{Dot, Comma, Open, Close, Arrow, Semicolon}
+use Rattle.call_text.specs.declared.token.Token.{Token}
+use Rattle.call_text.specs.declared.token.Token.TheVariants as tokens
+use Rattle.call_text.specs.declared.token.Token.TheVariants.{Dot, Comma, Open, Close, Arrow, Semicolon}
 use Rattle.call_text.specs.declared.call.ArgValue.TheVariants as values
 use Rattle.call_text.specs.declared.value_state.ValueState.{ValueState}
 use Rattle.call_text.specs.declared.value_state.ValueState.TheVariants.{Nothing, TimestampWord, MapWord, MapOpen, MapKey, MapKeyComma, MapPairs, MapPairsComma, ArrayWord, ArrayOpen, ArrayNumbers, ArrayNumbersComma, Whole}

@@ -5,13 +5,13 @@ use Rattle.std.specs.List.{flat_map, position_or_len, AllByRecursion}
 use Rattle.std.proofs.lemmas.Grind.{flat_map-append}
 use Rattle.std.proofs.lemmas.Bool.{eqb-true, eqb-false}
 use Rattle.std.proofs.lemmas.Bool.Decides.{nat_tests}
-use Rattle.call_tokens.specs.declared.token.Token.{Token}
-use Rattle.call_tokens.specs.declared.token.Token.TheVariants as tokens
-use Rattle.call_tokens.specs.Characters.{ends_word, is_no_digit, first_is, unescaped}
-use Rattle.call_tokens.specs.Cutting.{token_of}
-use Rattle.call_tokens.proofs.Spelled.{first_token}
-use Rattle.call_tokens.specs.Spelling.{IsBetweenBackquotes, IsWord, IsContent, IsNumber, IsSpelled}
-use Rattle.call_tokens.proofs.Longest.{is_wordy, Ends, again}
+use Rattle.call_text.specs.declared.token.Token.{Token}
+use Rattle.call_text.specs.declared.token.Token.TheVariants as tokens
+use Rattle.call_text.specs.Characters.{ends_word, is_no_digit, first_is, unescaped}
+use Rattle.call_text.specs.Cutting.{token_of}
+use Rattle.call_text.proofs.Spelled.{first_token}
+use Rattle.call_text.specs.Spelling.{IsBetweenBackquotes, IsWord, IsContent, IsNumber, IsSpelled}
+use Rattle.call_text.proofs.Longest.{is_wordy, Ends, again}
 use Rattle.call_text.specs.Statement.{is_no_blank, past_blanks, CutsFrom}
 use Rattle.call_text.specs.declared.call.Arg.{Arg}
 use Rattle.call_text.specs.declared.call.Call.{Call}

@@ -3,3 +3,6 @@ pub mod Grammar
 pub mod Statement
 pub mod Steps
 pub mod Writing
+pub mod Characters
+pub mod Spelling
+pub mod Cutting

@@ -1,8 +1,8 @@
 -- What a text spells, and where a text that spells nothing is at fault.
 use Rattle.std.specs.Prelude.{◌≡◌, ℕ, ◌+◌, List, [], ◌∷◌, ◌++◌, length, Bool, not, ◌||◌, ◌==◌, Result, Ok, Err}
-use Rattle.call_tokens.specs.declared.token.Token.{Token}
-use Rattle.call_tokens.specs.Spelling.{IsFirstToken}
-use Rattle.call_tokens.specs.Cutting.{from_first}
+use Rattle.call_text.specs.declared.token.Token.{Token}
+use Rattle.call_text.specs.Spelling.{IsFirstToken}
+use Rattle.call_text.specs.Cutting.{from_first}
 use Rattle.call_text.specs.declared.call.Call.{Call}
 use Rattle.call_text.specs.declared.error.SyntaxErr.{SyntaxErr}
 use Rattle.call_text.specs.declared.error.SyntaxErr.TheVariants as errors

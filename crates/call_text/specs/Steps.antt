@@ -1,10 +1,10 @@
 -- How a statement is read, one token further at a time, as a function. No contract of a public call cites it.
 use Rattle.std.specs.Prelude.{ℕ, List, [], ◌∷◌, ◌++◌, Option, Some, None, true, false, option_and_then, if◌then◌else◌}
 use Rattle.std.specs.Option.{option_map}
-use Rattle.call_tokens.specs.declared.token.Token.{Token}
-use Rattle.call_tokens.specs.Cutting.{token_of}
-use Rattle.call_tokens.specs.declared.token.Token.TheVariants as tokens
-use Rattle.call_tokens.specs.declared.token.Token.TheVariants.{Dot, Comma, Open, Close, Arrow, Semicolon}
+use Rattle.call_text.specs.declared.token.Token.{Token}
+use Rattle.call_text.specs.Cutting.{token_of}
+use Rattle.call_text.specs.declared.token.Token.TheVariants as tokens
+use Rattle.call_text.specs.declared.token.Token.TheVariants.{Dot, Comma, Open, Close, Arrow, Semicolon}
 use Rattle.call_text.specs.declared.call.Call.{Call}
 use Rattle.call_text.specs.declared.call.ArgValue.{ArgValue}
 use Rattle.call_text.specs.declared.call.ArgValue.TheVariants as values

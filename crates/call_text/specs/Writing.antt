@@ -1,10 +1,10 @@
 -- The text that is written for a call, and the calls that can be written.
 use Rattle.std.specs.Prelude.{◌≡◌, ℕ, Bool, true, false, List, [], ◌∷◌, ◌++◌, drop, codes, Option, Some, None, if◌then◌else◌, ◌==◌}
 use Rattle.std.specs.List.{flat_map, AllByRecursion}
-use Rattle.call_tokens.specs.declared.token.Token.{Token}
-use Rattle.call_tokens.specs.declared.token.Token.TheVariants as tokens
-use Rattle.call_tokens.specs.Characters.{backslash}
-use Rattle.call_tokens.specs.Spelling.{is_plain, IsBetweenBackquotes, IsNumber}
+use Rattle.call_text.specs.declared.token.Token.{Token}
+use Rattle.call_text.specs.declared.token.Token.TheVariants as tokens
+use Rattle.call_text.specs.Characters.{backslash}
+use Rattle.call_text.specs.Spelling.{is_plain, IsBetweenBackquotes, IsNumber}
 use Rattle.call_text.specs.declared.call.Call.{Call}
 use Rattle.call_text.specs.declared.call.Arg.{Arg}
 use Rattle.call_text.specs.declared.call.ArgValue.{ArgValue}

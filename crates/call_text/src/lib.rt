@@ -1,5 +1,9 @@
 //! Statements as texts: after the `CALL` form of Iceberg's Spark procedures.
 //!
+//! - `token`, `next`: the tokens of a statement, cut off one by one by the longest match; their forms are defined in
+//!   `specs/Spelling.antt`.
+//! - `word`, `string`, `number`: identifiers, strings and numbers, the tokens that are more than a mark.
+//! - `token_laws`: the token that is cut off is the first one by the longest match.
 //! - `call`: a statement as it stands, with nothing said yet of its procedure or the types of its values.
 //! - `read`, `write`: a text is read as a statement, and a statement written as a text.
 //! - `keyword`: the words of the language.
@@ -14,15 +18,27 @@ mod call;
 mod error;
 mod keyword;
 mod laws;
+mod next;
+mod number;
 mod read;
 mod state;
+mod string;
 #[cfg(test)]
 mod tests;
+mod token;
+mod token_laws;
+#[cfg(test)]
+mod token_tests;
 mod value_state;
+mod word;
 mod write;
 
 pub use call::{Arg, ArgList, ArgValue, Call, PairTexts};
 pub use error::SyntaxErr;
 pub use laws::{read_calls_can_be_written, statements_are_unambiguous};
+pub use next::next_token;
 pub use read::read_statement;
+pub use token::Token;
+pub use token_laws::longest_match;
+pub use word::is_plain;
 pub use write::write_statement;

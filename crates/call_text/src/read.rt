@@ -9,8 +9,8 @@ ghost use Rattle.call_text.specs.Writing.{CanBeWritten};
 
 use crate::call::Call;
 use crate::error::SyntaxErr;
+use crate::next::next_token;
 use crate::state::State;
-use call_tokens::next_token;
 use ice_store::Text;
 use std::alloc::{AllocError, Global};
 
@@ -26,7 +26,7 @@ fn blanks_end(bytes: &[u8]) -> Option<usize>
     bytes.iter().position(|b| is_no_blank(*b))
 }
 
-#[tactic(auto, using(call_tokens::proofs::Positions::position_or))]
+#[tactic(auto, using(crate::proofs::Positions::position_or))]
 fn blanks_len(bytes: &[u8]) -> usize
     ensures value { result ≡ position_or_len is_no_blank bytes.now }
     ensures within { result ≤ length bytes.now }

@@ -4,8 +4,8 @@ ghost use Rattle.call_text.specs.Steps.{argument_step, behind_comma, finished, s
 
 use crate::call::{Arg, ArgValue, Call};
 use crate::keyword::{Keyword, is_keyword};
+use crate::token::Token;
 use crate::value_state::{ValueState, begun_by_word};
-use call_tokens::Token;
 use ice_store::{Items, Text};
 use std::alloc::{AllocError, Global};
 

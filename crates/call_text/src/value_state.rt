@@ -4,7 +4,7 @@ ghost use Rattle.call_text.specs.Steps.{begun_by_word, value_step};
 
 use crate::call::{ArgValue, PairTexts};
 use crate::keyword::{Keyword, is_keyword};
-use call_tokens::Token;
+use crate::token::Token;
 use ice_store::{Items, Text, TextList};
 use std::alloc::{AllocError, Global};
 

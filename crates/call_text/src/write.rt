@@ -3,12 +3,12 @@
 //! A list is written as its first item and then each further one behind a comma.
 ghost use Rattle.std.specs.Prelude.{◌≡◌, ◌++◌, IfOk, OnOk, drop};
 ghost use Rattle.std.specs.List.{flat_map};
-ghost use Rattle.call_tokens.specs.declared.token.Token.TheVariants as tokens;
+ghost use Rattle.call_text.specs.declared.token.Token.TheVariants as tokens;
 ghost use Rattle.call_text.specs.Statement.{Spells};
 ghost use Rattle.call_text.specs.Writing.{escape, token_text, piece_text, name_token, pair_pieces, number_pieces, value_pieces, lead_pieces, arg_pieces, head_pieces, written, pair_text, number_text, arg_text, CanBeWritten};
 
 use crate::call::{Arg, ArgValue, Call};
-use call_tokens::is_plain;
+use crate::word::is_plain;
 use ice_store::Text;
 use std::alloc::{AllocError, Global};
 

@@ -2,9 +2,9 @@
 ghost use Rattle.std.specs.Prelude.{◌≡◌, ◌≤◌, length, IfOk};
 ghost use Rattle.std.specs.Option.{option_map};
 ghost use Rattle.std.specs.List.{before_first, list_all, position, position_or_len};
-ghost use Rattle.call_tokens.specs.Characters.{begins_word, continues_word, ends_word, first_is, is_backquote};
-ghost use Rattle.call_tokens.specs.Spelling.{is_plain};
-ghost use Rattle.call_tokens.specs.Cutting.{from_first, quoted_of};
+ghost use Rattle.call_text.specs.Characters.{begins_word, continues_word, ends_word, first_is, is_backquote};
+ghost use Rattle.call_text.specs.Spelling.{is_plain};
+ghost use Rattle.call_text.specs.Cutting.{from_first, quoted_of};
 
 use ice_store::Text;
 use std::alloc::{AllocError, Global};

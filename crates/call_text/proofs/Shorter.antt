@@ -7,10 +7,10 @@ use Rattle.std.proofs.lemmas.Option.{same_Some, option_and_then_some, cond_some}
 use Rattle.std.specs.Char.{is_ascii_digit}
 use Rattle.std.specs.Int.{is_in_range}
 use Rattle.std.proofs.lemmas.List.{length-drop}
-use Rattle.call_tokens.specs.declared.token.Token.{Token}
-use Rattle.call_tokens.specs.declared.token.Token.TheVariants as tokens
-use Rattle.call_tokens.specs.Characters.{begins_word, ends_word, is_backquote, is_quote, first_is, unescaped}
-use Rattle.call_tokens.specs.Cutting.{from_first, with_front, string_of, quoted_of, number_len, number_of, mark_of, token_of}
+use Rattle.call_text.specs.declared.token.Token.{Token}
+use Rattle.call_text.specs.declared.token.Token.TheVariants as tokens
+use Rattle.call_text.specs.Characters.{begins_word, ends_word, is_backquote, is_quote, first_is, unescaped}
+use Rattle.call_text.specs.Cutting.{from_first, with_front, string_of, quoted_of, number_len, number_of, mark_of, token_of}
 
 -- an if-chain that gives something gives one of its arms
 pub chosen : {A : Type 0} (b : Bool) (x y : Option A) (z : A) → cond b x y ≡ Some z → ((b ≡ true) × (x ≡ Some z)) ⊎ ((b ≡ false) × (y ≡ Some z))

@@ -1,8 +1,8 @@
 //! The token at the front of some bytes.
 ghost use Rattle.std.specs.Prelude.{◌≡◌, IfOk, IfSome, IfNone};
 ghost use Rattle.std.specs.Option.{option_map};
-ghost use Rattle.call_tokens.specs.Spelling.{IsFirstToken, HasNoToken};
-ghost use Rattle.call_tokens.specs.Cutting.{mark_of, token_of};
+ghost use Rattle.call_text.specs.Spelling.{IsFirstToken, HasNoToken};
+ghost use Rattle.call_text.specs.Cutting.{mark_of, token_of};
 
 use crate::number::number;
 use crate::string::string;

@@ -1,9 +1,9 @@
 -- The forms of the tokens, and the first token of some bytes by the longest match.
 use Rattle.std.specs.Prelude.{◌≡◌, ◌≢◌, ◌⊎◌, ℕ, ◌<◌, ◌≤◌, Bool, true, false, ◌&&◌, List, [], ◌∷◌, ◌++◌, length, Some, codes}
 use Rattle.std.specs.List.{AllByRecursion, list_all}
-use Rattle.call_tokens.specs.declared.token.Token.{Token}
-use Rattle.call_tokens.specs.declared.token.Token.TheVariants as tokens
-use Rattle.call_tokens.specs.Characters.{begins_word, continues_word, ends_word, is_quote, is_no_digit, is_backquote, backslash, most_digits, first_is, unescaped}
+use Rattle.call_text.specs.declared.token.Token.{Token}
+use Rattle.call_text.specs.declared.token.Token.TheVariants as tokens
+use Rattle.call_text.specs.Characters.{begins_word, continues_word, ends_word, is_quote, is_no_digit, is_backquote, backslash, most_digits, first_is, unescaped}
 
 -- an identifier without backquotes: a letter or _, then letters, digits and _
 pub record IsWord (w : List ℕ) : Type 0 where

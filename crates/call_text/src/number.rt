@@ -2,8 +2,8 @@
 ghost use Rattle.std.specs.Prelude.{◌≡◌, ◌≤◌, length, IfOk};
 ghost use Rattle.std.specs.Option.{option_map};
 ghost use Rattle.std.specs.List.{position, position_or_len};
-ghost use Rattle.call_tokens.specs.Characters.{is_no_digit};
-ghost use Rattle.call_tokens.specs.Cutting.{long_mark_len, number_len, number_of, sign_len};
+ghost use Rattle.call_text.specs.Characters.{is_no_digit};
+ghost use Rattle.call_text.specs.Cutting.{long_mark_len, number_len, number_of, sign_len};
 
 use crate::token::Token;
 use ice_store::Text;

@@ -1,5 +1,5 @@
-use Rattle.call_tokens.proofs.Found.{found_token, found_none}
-use Rattle.call_tokens.proofs.next.next_token.Goals as goal
+use Rattle.call_text.proofs.Found.{found_token, found_none}
+use Rattle.call_text.proofs.next.next_token.Goals as goal
 
 pub returns-clause-token : goal.returns-clause-token
 returns-clause-token c = found_token c.args.bytes.now c.cut_token.result c.cut_token.ensures

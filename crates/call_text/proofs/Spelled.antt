@@ -9,13 +9,13 @@ use Rattle.std.proofs.lemmas.Option.{same_Some, option_and_then_some, cond_some}
 use Rattle.std.proofs.lemmas.List.{length-take, length-append, take_at, drop_at, take-append-drop, drop-drop}
 use Rattle.std.proofs.lemmas.List.Sums.{prefix_len-le-length, split_at_first, passes_at_first}
 use Rattle.std.proofs.lemmas.Bool.{eqb-true, eqb-false, ltb-true, and_parts, or_cases}
-use Rattle.call_tokens.specs.declared.token.Token.{Token}
-use Rattle.call_tokens.specs.declared.token.Token.TheVariants as tokens
-use Rattle.call_tokens.specs.Characters.{begins_word, ends_word, is_backquote, is_quote, is_no_digit, is_long_mark, first_is, unescaped}
-use Rattle.call_tokens.specs.Cutting.{from_first, sign_len, long_mark_len, with_front, string_of, quoted_of, number_len, number_of, mark_of, token_of}
-use Rattle.call_tokens.specs.Spelling.{IsContent, IsSpelled, IsFirstToken, HasNoToken}
-use Rattle.call_tokens.proofs.Shorter.{chosen, mapped, not_both}
-use Rattle.call_tokens.proofs.Longest.{Takes, takes, one_within}
+use Rattle.call_text.specs.declared.token.Token.{Token}
+use Rattle.call_text.specs.declared.token.Token.TheVariants as tokens
+use Rattle.call_text.specs.Characters.{begins_word, ends_word, is_backquote, is_quote, is_no_digit, is_long_mark, first_is, unescaped}
+use Rattle.call_text.specs.Cutting.{from_first, sign_len, long_mark_len, with_front, string_of, quoted_of, number_len, number_of, mark_of, token_of}
+use Rattle.call_text.specs.Spelling.{IsContent, IsSpelled, IsFirstToken, HasNoToken}
+use Rattle.call_text.proofs.Shorter.{chosen, mapped, not_both}
+use Rattle.call_text.proofs.Longest.{Takes, takes, one_within}
 
 pub record Cut (bytes : List ℕ) (x : Token × List ℕ) : Type 0 where
   pub front : List ℕ

@@ -1,10 +1,10 @@
 -- What is cut off, in the words of the definition.
 use Rattle.std.proofs.Common.{◌≡◌, Bor, IfOk, IfSome, IfNone, ℕ, List, Option, Some, None, Result, Ok, Err, sym}
 use Rattle.std.specs.Option.{option_map}
-use Rattle.call_tokens.specs.declared.token.Token.{Token}
-use Rattle.call_tokens.specs.Cutting.{token_of}
-use Rattle.call_tokens.specs.Spelling.{IsFirstToken, HasNoToken}
-use Rattle.call_tokens.proofs.Spelled.{first_token, none_none}
+use Rattle.call_text.specs.declared.token.Token.{Token}
+use Rattle.call_text.specs.Cutting.{token_of}
+use Rattle.call_text.specs.Spelling.{IsFirstToken, HasNoToken}
+use Rattle.call_text.proofs.Spelled.{first_token, none_none}
 
 -- a token, and the bytes behind it as they are seen now
 abbrev pub seen : Token × Bor (List ℕ) → Token × List ℕ

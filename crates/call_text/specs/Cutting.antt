@@ -4,9 +4,9 @@ use Rattle.std.specs.Prelude.{◌++◌, ℕ, ◌+◌, Bool, true, false, ◌||�
 use Rattle.std.specs.List.{before_first, position_or_len}
 use Rattle.std.specs.Option.{option_map}
 use Rattle.std.specs.Char.{is_ascii_digit}
-use Rattle.call_tokens.specs.declared.token.Token.{Token}
-use Rattle.call_tokens.specs.declared.token.Token.TheVariants.{Word, Quoted, Str, Number, Dot, Comma, Open, Close, Arrow, Semicolon}
-use Rattle.call_tokens.specs.Characters.{begins_word, ends_word, is_no_digit, is_quote, is_backquote, backslash, is_long_mark, most_digits, first_is, unescaped}
+use Rattle.call_text.specs.declared.token.Token.{Token}
+use Rattle.call_text.specs.declared.token.Token.TheVariants.{Word, Quoted, Str, Number, Dot, Comma, Open, Close, Arrow, Semicolon}
+use Rattle.call_text.specs.Characters.{begins_word, ends_word, is_no_digit, is_quote, is_backquote, backslash, is_long_mark, most_digits, first_is, unescaped}
 
 -- what stands from the first byte that passes the test
 abbrev pub from_first : (ℕ → Bool) → List ℕ → List ℕ

@@ -8,11 +8,11 @@ use Rattle.std.proofs.lemmas.List.{length-drop, length-append, take_at, drop_at}
 use Rattle.std.proofs.lemmas.List.Sums.{prefix_len-le-length}
 use Rattle.std.proofs.lemmas.Bool.{eqb-true, eq-eqb, ne_eqb, lt-ltb, or_cases, cases_lt}
 use Rattle.std.proofs.lemmas.Bool.Decides.{nat_tests}
-use Rattle.call_tokens.specs.declared.token.Token.{Token}
-use Rattle.call_tokens.specs.declared.token.Token.TheVariants as tokens
-use Rattle.call_tokens.specs.Characters.{begins_word, ends_word, is_backquote, is_quote, is_no_digit, is_long_mark, first_is, unescaped}
-use Rattle.call_tokens.specs.Cutting.{sign_len, long_mark_len, with_front, string_of, quoted_of, number_len, number_of, mark_of, token_of}
-use Rattle.call_tokens.specs.Spelling.{IsWord, IsContent, IsString, IsNumber, IsSpelled}
+use Rattle.call_text.specs.declared.token.Token.{Token}
+use Rattle.call_text.specs.declared.token.Token.TheVariants as tokens
+use Rattle.call_text.specs.Characters.{begins_word, ends_word, is_backquote, is_quote, is_no_digit, is_long_mark, first_is, unescaped}
+use Rattle.call_text.specs.Cutting.{sign_len, long_mark_len, with_front, string_of, quoted_of, number_len, number_of, mark_of, token_of}
+use Rattle.call_text.specs.Spelling.{IsWord, IsContent, IsString, IsNumber, IsSpelled}
 
 -- ---- what a token spells is read again, as it or as something longer
 

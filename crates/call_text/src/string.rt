@@ -1,8 +1,8 @@
 //! Strings, and the escapes in them.
 ghost use Rattle.std.specs.Prelude.{◌≡◌, IfOk, false};
 ghost use Rattle.std.specs.Option.{option_map};
-ghost use Rattle.call_tokens.specs.Characters.{unescaped};
-ghost use Rattle.call_tokens.specs.Cutting.{string_of};
+ghost use Rattle.call_text.specs.Characters.{unescaped};
+ghost use Rattle.call_text.specs.Cutting.{string_of};
 
 use ice_store::Text;
 use std::alloc::{AllocError, Global};

@@ -1,5 +1,0 @@
-pub mod Positions
-pub mod Shorter
-pub mod Longest
-pub mod Spelled
-pub mod Found
