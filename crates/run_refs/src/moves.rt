@@ -73,12 +73,7 @@ impl<M: Manners> Change<M> for RefMove {
 }
 
 /// The move on this base.
-pub(crate) fn move_on(
-    alloc: Global,
-    meta: Meta,
-    goal: &Goal,
-    now: u64,
-) -> Result<Moved, AttemptErr>
+pub(crate) fn move_on(alloc: Global, meta: Meta, goal: &Goal, now: u64) -> Result<Moved, AttemptErr>
     requires { now < 2 ^ 63 }
     ensures built { IfOk result (λ moved. IsMoved goal.now now (view meta) moved.built) }
     ensures seen { IfOk result (λ moved. HasSeen goal.now (view meta) moved.previous moved.id) }
