@@ -39,11 +39,11 @@ BlocksAreApart = (sync : List ℕ) (m n : ℕ) (v w a b x y : List ℕ) → Spel
 abbrev pub Pair : Type 0
 Pair = List ℕ × List ℕ
 
--- A pair is spelled by its key and its value, each as bytes behind their length.
+-- The key and the value, each with its length before it.
 unfoldable pub SpellsPair : Pair → List ℕ → Type 0
 SpellsPair e b = IsUtf8 e.0 × Joins (SpellsText e.0) (SpellsText e.1) b
 
--- The metadata map: blocks of such pairs.
+-- The metadata as a block of pairs.
 abbrev pub SpellsMeta : List Pair → List ℕ → Type 0
 SpellsMeta meta b = SpellsBlocks SpellsPair most_items meta b
 

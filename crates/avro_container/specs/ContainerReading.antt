@@ -13,7 +13,7 @@ use Rattle.avro_container.specs.declared.header.Header.{Header}
 use Rattle.avro_container.specs.Reading.{Causes, Fault, Read, ◌>>=◌, number_at, bytes_at, blob_at, string_at, with_front, blocks_at}
 use Rattle.avro_container.specs.Container.{magic, most_items, most_block_bytes, Pair}
 
--- The cause of each fault in what containers and values share, as a container tells it.
+-- The faults of what a container file is made of.
 abbrev pub causes : Causes ContainerCause
 causes = record { short = Short; too_long = TooLong; bad_utf8 = BadUtf8; negative_length = NegativeLength; bad_size = BadSize; too_many = TooMany }
 
@@ -22,11 +22,11 @@ abbrev pub bounded : ℕ → ContainerCause → ℕ → ℤ × List ℕ → Read
 bounded most above left (pos n, rest) = if nat_lt most n then Err (above, left) else Ok (n, rest)
 bounded most above left (negsuc n, rest) = Err (NegativeCount, left)
 
--- The count of a block's objects, within its limit.
+-- A count of objects, within its limit.
 unfoldable pub count_at : List ℕ → Read ContainerCause ℕ
 count_at bytes = number_at causes bytes >>= bounded most_items TooMany (length bytes)
 
--- The size of a block's body in bytes, within its limit.
+-- A size of a block's body in bytes, within its limit.
 unfoldable pub size_at : List ℕ → Read ContainerCause ℕ
 size_at bytes = number_at causes bytes >>= bounded most_block_bytes BlockTooLarge (length bytes)
 
@@ -47,11 +47,11 @@ magic_at bytes = if bytes_eq (take 4 bytes) magic then Ok (tt, drop 4 bytes)
 unfoldable pub entry_at : ℕ → List ℕ → Read ContainerCause Entry
 entry_at n bytes = string_at causes bytes >>= λ k. blob_at causes k.1 >>= λ v. Ok (record { key = k.0; value = v.0; at = n - length k.1 }, v.1)
 
--- The entries of the metadata map, in the order in which they stand.
+-- The entries of the metadata, in n bytes in all.
 unfoldable pub entries_at : ℕ → List ℕ → Read ContainerCause (List Entry)
 entries_at n bytes = blocks_at causes (entry_at n) (suc (length bytes)) most_items bytes
 
--- A pair of the metadata without its place.
+-- An entry without its place.
 abbrev pub pair_of : Entry → Pair
 pair_of e = (e.key, e.value)
 
@@ -69,7 +69,7 @@ judged n None s = text_of n s
 judged n (Some c) s = if bytes_eq c.value (codes "null") then text_of n s
     else (if is_utf8 s.value then Err (Codec, n - c.at) else (if nat_lt c.at s.at then Err (Codec, n - c.at) else Err (BadUtf8, n - s.at)))
 
--- The same of the last schema entry, and a fault behind the magic bytes where there is none.
+-- The schema's text, where there is one.
 abbrev pub with_schema : ℕ → Option Entry → Option Entry → Result (List ℕ) (Fault ContainerCause)
 with_schema n codec None = Err (NoSchema, n - 4)
 with_schema n codec (Some s) = judged n codec s
@@ -82,7 +82,7 @@ schema_of n entries = with_schema n (last_of (codes "avro.codec") entries) (last
 abbrev pub Said : Type 0
 Said = List ℕ × List Pair × List ℕ
 
--- The magic bytes, the metadata, its schema, and the marker of sixteen bytes.
+-- The magic bytes, the metadata and the marker.
 unfoldable pub header_at : List ℕ → Read ContainerCause Said
 header_at bytes = magic_at bytes >>= λ m. entries_at (length bytes) m.1 >>= λ e. schema_of (length bytes) e.0 >>= λ text. bytes_at causes 16 e.1 >>= λ s. Ok ((text, map pair_of e.0, s.0), s.1)
 

@@ -2,6 +2,6 @@
 use Rattle.avro_container.specs.declared.writing.LentPair.{LentPair}
 use Rattle.avro_container.specs.Container.{Pair}
 
--- The key and the value that were lent.
+-- A pair that is lent.
 abbrev pub pair_seen : LentPair → Pair
 pair_seen p = (p.key.now, p.value.now)

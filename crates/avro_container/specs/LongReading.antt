@@ -18,21 +18,21 @@ groups_at (suc k) (b ∷ bs) = if nat_lt b 128 then Ok (b, bs) else with_low b (
 abbrev pub unzigzag : ℕ → ℤ
 unzigzag n = if n % 2 == 0 then pos (n / 2) else negsuc (n / 2)
 
--- A number of at most 64 bits; a greater one is too long.
+-- A number below 2^64, and any other is too long.
 abbrev pub of_64_bits : Result (ℕ × List ℕ) NumErr → Result (ℕ × List ℕ) NumErr
 of_64_bits (Ok x) = if nat_lt x.0 (2 ^ 64) then Ok x else Err TooLong
 of_64_bits (Err e) = Err e
 
--- The same number as a signed one.
+-- The number in the order 0, -1, 1, -2.
 abbrev pub with_sign : Result (ℕ × List ℕ) NumErr → Result (ℤ × List ℕ) NumErr
 with_sign (Ok x) = Ok (unzigzag x.0, x.1)
 with_sign (Err e) = Err e
 
--- the number whose groups of seven bits come first, of at most ten bytes and 64 bits
+-- The number of at most ten groups at the front of the bytes.
 unfoldable pub unsigned_at : List ℕ → Result (ℕ × List ℕ) NumErr
 unsigned_at bytes = of_64_bits (groups_at 10 bytes)
 
--- The long that comes first, or the fault of its number.
+-- The number that the bytes begin with, and what is left; or the first fault.
 unfoldable pub long_at : List ℕ → Result (ℤ × List ℕ) NumErr
 long_at bytes = with_sign (unsigned_at bytes)
 

@@ -22,28 +22,28 @@ Fault C = C × ℕ
 abbrev pub Read : Type 0 → Type 0 → Type 0
 Read C A = Result (A × List ℕ) (Fault C)
 
--- What is read from the bytes behind a value, where that was read.
 infixl 10 ◌>>=◌
+-- The second reading goes on where the first one ended; the first fault is the fault.
 abbrev pub ◌>>=◌ : {C A B : Type 0} → Result A (Fault C) → (A → Result B (Fault C)) → Result B (Fault C)
 (Ok x) >>= f = f x
 (Err e) >>= f = Err e
 
--- A number, or its fault, as this reader tells it: one that is short ends with the bytes, one that is too long stands where `left` bytes are left.
+-- A number's fault, as one of these causes.
 abbrev pub as_read : {C : Type 0} → Causes C → ℕ → Result (ℤ × List ℕ) NumErr → Read C ℤ
 as_read c left (Ok x) = Ok x
 as_read c left (Err number.Short) = Err (c.short, 0)
 as_read c left (Err number.TooLong) = Err (c.too_long, left)
 
--- The long that comes first, its faults told by these causes.
+-- A number at the front of the bytes.
 unfoldable pub number_at : {C : Type 0} → Causes C → List ℕ → Read C ℤ
 number_at c bytes = as_read c (length bytes) (long_at bytes)
 
--- A number that is a length, from 0 on.
+-- A number that isn't negative.
 abbrev pub natural : {C : Type 0} → Causes C → ℕ → ℤ × List ℕ → Read C ℕ
 natural c left (pos n, rest) = Ok (n, rest)
 natural c left (negsuc n, rest) = Err (c.negative_length, left)
 
--- A length: a long from 0 on.
+-- A length: a number that isn't negative.
 unfoldable pub length_at : {C : Type 0} → Causes C → List ℕ → Read C ℕ
 length_at c bytes = number_at c bytes >>= natural c (length bytes)
 
@@ -59,7 +59,7 @@ blob_at c bytes = length_at c bytes >>= λ n. bytes_at c n.0 n.1
 unfoldable pub string_at : {C : Type 0} → Causes C → List ℕ → Read C (List ℕ)
 string_at c bytes = blob_at c bytes >>= λ s. if is_utf8 s.0 then Ok s else Err (c.bad_utf8, length bytes)
 
--- The items that were read, behind those in front.
+-- What is read, with these items before it.
 abbrev pub with_front : {C A : Type 0} → List A → Read C (List A) → Read C (List A)
 with_front front read = read >>= λ x. Ok (front ++ x.0, x.1)
 
@@ -77,7 +77,7 @@ abbrev pub allowed : {C : Type 0} → Causes C → ℕ → ℕ → ℤ × List �
 allowed c room left (pos n, rest) = if nat_lt room n then Err (c.too_many, left) else Ok ((n, None), rest)
 allowed c room left (negsuc n, rest) = if nat_lt room (suc n) then Err (c.too_many, left) else (number_at c rest >>= λ size. Ok ((suc n, Some size.0), size.1))
 
--- The head of a block: how many items follow; behind a count below zero, which stands for its absolute, the size of the block in bytes comes, too.
+-- The head of a block of items: their count, within the room, and their size where it is stated.
 unfoldable pub head_at : {C : Type 0} → Causes C → ℕ → List ℕ → Read C (ℕ × Option ℤ)
 head_at c room bytes = number_at c bytes >>= allowed c room (length bytes)
 

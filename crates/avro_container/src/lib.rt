@@ -19,7 +19,7 @@ pub use long::{
     longs_are_apart, read_long, write_long, written_long_is_shortest, written_long_spells,
 };
 pub use text::{Bytes, MetaList, Text};
-pub use writing::write_header;
+pub use writing::{keys_are_text, write_header};
 
 #[cfg(test)]
 mod tests;

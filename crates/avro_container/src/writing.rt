@@ -1,8 +1,8 @@
 //! Headers written (Apache Avro 1.11, "Object Container Files").
 
-ghost use Rattle.std.specs.Prelude.{◌≡◌, ◌≤◌, ◌+◌, ◌++◌, length, vec_len, map, codes, IfSome, IsSomeAnd, IfOk, OnOk, OnErr};
-ghost use Rattle.std.specs.List.{IsDistinct, list_any};
-ghost use Rattle.std.specs.Str.{IsUtf8, bytes_eq};
+ghost use Rattle.std.specs.Prelude.{◌≡◌, ◌≤◌, ◌+◌, ◌++◌, length, vec_len, map, codes, IsTrue, ◌↔◌, All, IfSome, IsSomeAnd, IfOk, OnOk, OnErr};
+ghost use Rattle.std.specs.List.{IsDistinct, list_all, list_any};
+ghost use Rattle.std.specs.Str.{IsUtf8, bytes_eq, is_utf8};
 ghost use Rattle.avro_container.specs.Growth.{Grows};
 ghost use Rattle.avro_container.specs.Writing.{written_text, written_each, written_blocks};
 ghost use Rattle.avro_container.specs.Container.{value_of};
@@ -10,6 +10,7 @@ ghost use Rattle.avro_container.specs.ContainerWriting.{AppendsHeader, IsInOrder
 ghost use Rattle.avro_container.specs.Lent.{pair_seen};
 
 use crate::long::put_long;
+use crate::parts::is_text;
 use crate::text::MetaList;
 use std::alloc::{AllocError, Global};
 
@@ -111,11 +112,27 @@ fn put_header(pairs: &[LentPair], sync: &[u8; 16], to: &mut Vec<u8>) -> Result<(
     to.extend_from_slice(sync)
 }
 
+/// Whether each key is UTF-8.
+pub fn keys_are_text(meta: &MetaList) -> bool
+    ensures { IsTrue result ↔ All (λ e. IsUtf8 e.0) meta.now }
+{
+    all_keys_pass(meta)
+}
+
+fn all_keys_pass(meta: &MetaList) -> bool
+    ensures { result ≡ list_all (λ e. is_utf8 e.0) meta.now }
+{
+    meta.inner()
+        .iter()
+        .all(|pair| is_text(pair.0.inner().as_slice()))
+}
+
 /// Writes a header at the end: the metadata in one block, in the byte order of their keys, with the codec `null`.
 ///
-/// Only keys in UTF-8 make a header that is read again.
+/// `keys_are_text` is the test of `utf8`: a key that isn't UTF-8 would make a header that isn't read again.
 pub fn write_header(meta: &MetaList, sync: &[u8; 16], to: &mut Vec<u8>) -> Result<(), AllocError>
     requires keys { IsDistinct bytes_eq (map (λ e. e.0) meta.now) }
+    requires utf8 { All (λ e. IsUtf8 e.0) meta.now }
     requires schema { IsSomeAnd (value_of (codes "avro.schema") meta.now) IsUtf8 }
     requires codec { IfSome (value_of (codes "avro.codec") meta.now) (λ c. c ≡ codes "null") }
     requires few { length meta.now ≤ 16777215 }

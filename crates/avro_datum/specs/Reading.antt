@@ -12,7 +12,7 @@ use Rattle.avro_datum.specs.declared.datum.Datum.{Datum}
 use Rattle.avro_datum.specs.declared.datum.Datum.TheVariants.{Null, Bool as Truth, Int, Long, Float4, Float8, Blob, Str, Fix, Choice, List as Array, Pairs, Fields, Branch}
 use Rattle.avro_datum.specs.Spelling.{most_items}
 
--- The cause of each fault in what containers and values share, as a value tells it.
+-- The faults of what a value is made of.
 abbrev pub causes : Causes DatumCause
 causes = record { short = Short; too_long = NumberTooLong; bad_utf8 = BadUtf8; negative_length = NegativeLength; bad_size = BadSize; too_many = TooMany }
 
@@ -21,7 +21,7 @@ abbrev pub narrow : ℕ → ℤ × List ℕ → Read DatumCause ℤ
 narrow left (pos n, rest) = if nat_lt n (2 ^ 31) then Ok (pos n, rest) else Err (NumberTooLong, left)
 narrow left (negsuc n, rest) = if nat_lt n (2 ^ 31) then Ok (negsuc n, rest) else Err (NumberTooLong, left)
 
--- The int that comes first.
+-- A number of 32 bits.
 unfoldable pub int_at : List ℕ → Read DatumCause ℤ
 int_at bytes = number_at causes bytes >>= narrow (length bytes)
 
@@ -30,7 +30,7 @@ abbrev pub position : DatumCause → ℕ → ℕ → ℤ × List ℕ → Read Da
 position above count left (pos n, rest) = if nat_lt n count && nat_lt n (2 ^ 32) then Ok (n, rest) else Err (above, left)
 position above count left (negsuc n, rest) = Err (above, left)
 
--- The position that comes first, below a count.
+-- A position below count.
 unfoldable pub position_at : DatumCause → ℕ → List ℕ → Read DatumCause ℕ
 position_at above count bytes = number_at causes bytes >>= position above count (length bytes)
 
@@ -51,6 +51,7 @@ count_of no_forms = 0
 count_of (form f fs) = suc (count_of fs)
 
 unfoldable mutual
+  -- The value that the bytes begin with under a schema's form, and what is left; or the first fault.
   pub read : Form → List ℕ → Read DatumCause Datum
   read null bytes = Ok (Null, bytes)
   read boolean bytes = bool_at bytes >>= λ b. Ok (Truth b.0, b.1)
@@ -67,10 +68,12 @@ unfoldable mutual
   read (fields fs) bytes = read_all fs bytes >>= λ ds. Ok (Fields ds.0, ds.1)
   read (union fs) bytes = position_at BadBranch (count_of fs) bytes >>= λ n. read_nth fs n.0 n.1 >>= λ d. Ok (Branch n.0 d.0, d.1)
 
+  -- A value under each form, in order.
   pub read_all : Forms → List ℕ → Read DatumCause (List Datum)
   read_all no_forms bytes = Ok ([], bytes)
   read_all (form f fs) bytes = ahead (read f bytes) (read_all fs)
 
+  -- A value under the form at a position.
   pub read_nth : Forms → ℕ → List ℕ → Read DatumCause Datum
   read_nth no_forms n bytes = Err (BadBranch, length bytes)
   read_nth (form f fs) zero bytes = read f bytes

@@ -16,7 +16,7 @@ abbrev pub IsInt : ℤ → Type 0
 IsInt (pos n) = n < 2 ^ 31
 IsInt (negsuc n) = n < 2 ^ 31
 
--- The byte of a boolean, 0 or 1.
+-- The byte of a truth: 0 or 1.
 abbrev pub truth_byte : Bool → ℕ
 truth_byte false = 0
 truth_byte true = 1
@@ -26,6 +26,7 @@ unfoldable pub SpellsEntry : (Datum → List ℕ → Type 0) → List ℕ × Dat
 SpellsEntry P e b = IsUtf8 e.0 × Joins (SpellsText e.0) (P e.1) b
 
 unfoldable mutual
+  -- The bytes spell the value under the form.
   pub Spells : Form → Datum → List ℕ → Type 0
   Spells null d b = (d ≡ Null) × (b ≡ [])
   Spells boolean d b = (t : Bool) × (d ≡ Truth t) × (b ≡ truth_byte t ∷ [])
@@ -52,6 +53,7 @@ unfoldable mutual
   SpellsAll (form f fs) [] b = ⊥
   SpellsAll (form f fs) (d ∷ ds) b = Joins (Spells f d) (SpellsAll fs ds) b
 
+  -- The bytes spell the value under the form at a position.
   pub SpellsNth : Forms → ℕ → Datum → List ℕ → Type 0
   SpellsNth no_forms n d b = ⊥
   SpellsNth (form f fs) zero d b = Spells f d b

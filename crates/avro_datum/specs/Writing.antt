@@ -39,6 +39,7 @@ unfoldable mutual
   AreOf (form f fs) [] = ⊥
   AreOf (form f fs) (d ∷ ds) = IsOf f d × AreOf fs ds
 
+  -- The value is of the form at a position.
   pub IsOfNth : Forms → ℕ → Datum → Type 0
   IsOfNth no_forms n d = ⊥
   IsOfNth (form f fs) zero d = IsOf f d
@@ -46,13 +47,13 @@ unfoldable mutual
 
 -- What a value holds, one level down.
 
--- The number of an int or a long.
+-- The number of a value, 0 where it is none.
 abbrev pub number_in : Datum-F Datum → ℤ
 number_in (Datum-F.Int n) = n
 number_in (Datum-F.Long n) = n
 number_in _ = pos 0
 
--- The bytes of a float, a text, a fixed or bytes.
+-- The bytes of a value, none where it has none.
 abbrev pub bytes_in : Datum-F Datum → List ℕ
 bytes_in (Datum-F.Float4 b) = b
 bytes_in (Datum-F.Float8 b) = b
@@ -61,38 +62,39 @@ bytes_in (Datum-F.Str t) = t
 bytes_in (Datum-F.Fix b) = b
 bytes_in _ = []
 
--- The truth of a boolean.
+-- The truth of a value, false where it is none.
 abbrev pub truth_in : Datum-F Datum → Bool
 truth_in (Datum-F.Bool t) = t
 truth_in _ = false
 
--- The items of an array, or the values of a record.
+-- The items or fields of a value, none where it has none.
 abbrev pub items_in : Datum-F Datum → List Datum
 items_in (Datum-F.List ds) = ds
 items_in (Datum-F.Fields ds) = ds
 items_in _ = []
 
--- The entries of a map.
+-- The entries of a map, none where it is none.
 abbrev pub entries_in : Datum-F Datum → List (List ℕ × Datum)
 entries_in (Datum-F.Pairs ds) = ds
 entries_in _ = []
 
--- The position of an enum's symbol, or of a union's branch.
+-- The position of a choice or a branch, 0 where it is none.
 abbrev pub position_in : Datum-F Datum → ℕ
 position_in (Datum-F.Choice n) = n
 position_in (Datum-F.Branch n d) = n
 position_in _ = 0
 
--- The value of a union's branch.
+-- The value of a branch, null where it is none.
 abbrev pub inner_in : Datum-F Datum → Datum
 inner_in (Datum-F.Branch n d) = d
 inner_in _ = Null
 
--- A key and its value, the value written so.
+-- An entry of a map: its key, and its value as w writes it.
 unfoldable pub written_entry : (Datum → List ℕ) → List ℕ × Datum → List ℕ
 written_entry w e = written_text e.0 ++ w e.1
 
 unfoldable mutual
+  -- The written spelling of a value under a form.
   pub written : Form → Datum → List ℕ
   written null d = []
   written boolean d = truth_byte (truth_in (out-Datum d)) ∷ []
@@ -109,11 +111,13 @@ unfoldable mutual
   written (fields fs) d = written_all fs (items_in (out-Datum d))
   written (union fs) d = written_long (pos (position_in (out-Datum d))) ++ written_nth fs (position_in (out-Datum d)) (inner_in (out-Datum d))
 
+  -- The values in order, each under its form.
   pub written_all : Forms → List Datum → List ℕ
   written_all no_forms ds = []
   written_all (form f fs) [] = []
   written_all (form f fs) (d ∷ ds) = written f d ++ written_all fs ds
 
+  -- The value under the form at a position.
   pub written_nth : Forms → ℕ → Datum → List ℕ
   written_nth no_forms n d = []
   written_nth (form f fs) zero d = written f d

@@ -5,7 +5,7 @@ use Rattle.avro_schema.specs.declared.schema.Field.{Field, fold-Field}
 use Rattle.avro_schema.specs.declared.schema.Schema.TheOpen.{Schema-F, Field-F}
 
 mutual
-  -- the form of a type: all of it that decides how its values are spelled
+  -- the form of a schema: which values it has, without names of types and logical types
   pub data Form : Type 0 where
     null : Form
     boolean : Form
@@ -28,21 +28,21 @@ mutual
     -- of such branches
     union : Forms → Form
 
-  -- the forms of a record's fields, or of a union's branches
+  -- the forms of a record's fields or of a union's branches, in order
   pub data Forms : Type 0 where
     no_forms : Forms
     form : Form → Forms → Forms
 
--- a list of forms as such
+-- a list of forms as forms
 abbrev pub forms_of : List Form → Forms
 forms_of [] = no_forms
 forms_of (f ∷ fs) = form f (forms_of fs)
 
--- the form of a field is that of its type
+-- the form of a field, once its schema has one
 abbrev pub field_step : Field-F Form Form → Form
 field_step f = f.schema
 
--- the form of a type, by those of the types within it
+-- the form of a schema, once those within it have theirs
 abbrev pub form_step : Schema-F Form Form → Form
 form_step Schema-F.Null = null
 form_step Schema-F.Bool = boolean
@@ -59,11 +59,11 @@ form_step (Schema-F.Pairs value key_id value_id) = pairs value
 form_step (Schema-F.Fields name fs) = fields (forms_of fs)
 form_step (Schema-F.Union branches) = union (forms_of branches)
 
--- the form of a type
+-- the form of a schema
 abbrev pub form_of : Schema → Form
 form_of = fold-Schema Form Form form_step field_step
 
--- the form of a field's type
+-- the form of a field's schema
 abbrev pub field_form : Field → Form
 field_form = fold-Field Form Form form_step field_step
 
@@ -85,6 +85,7 @@ abbrev mutual
   depth (fields fs) = suc (deepest fs)
   depth (union fs) = suc (deepest fs)
 
+  -- the depth of the deepest of some forms
   pub deepest : Forms → ℕ
   deepest no_forms = 0
   deepest (form f fs) = max (depth f) (deepest fs)
@@ -107,10 +108,12 @@ abbrev mutual
   width (fields fs) = field_widths fs
   width (union fs) = branch_widths fs
 
+  -- how many record fields these fields are, with those within them
   pub field_widths : Forms → ℕ
   field_widths no_forms = 0
   field_widths (form f fs) = suc (width f + field_widths fs)
 
+  -- how many record fields lie within these branches
   pub branch_widths : Forms → ℕ
   branch_widths no_forms = 0
   branch_widths (form f fs) = width f + branch_widths fs

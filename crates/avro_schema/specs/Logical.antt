@@ -6,7 +6,7 @@ use Rattle.avro_schema.specs.Attribute.{text_at, is_text, u32_of, flag_at}
 use Rattle.avro_schema.specs.declared.schema.Logical.{Logical}
 use Rattle.avro_schema.specs.declared.schema.Logical.TheVariants.{Plain, Date, TimeMicros, TimestampMicros, Decimal, Uuid}
 
--- the type names this logical type
+-- the attribute `logicalType` is this word
 unfoldable pub has_logical : List ℕ → Data → Bool
 has_logical word d = is_text word (text_at (codes "logicalType") d)
 
@@ -24,22 +24,22 @@ abbrev pub scale_of : Option Data → Option ℕ
 scale_of None = Some 0
 scale_of (Some d) = u32_of d
 
--- the precision, which a decimal can't lack
+-- the precision of a decimal, where it is a number of 32 bits
 abbrev pub precision_of : Option Data → Option ℕ
 precision_of None = None
 precision_of (Some d) = u32_of d
 
--- a decimal where both its numbers are there
+-- a decimal of this precision and scale, where both are right
 abbrev pub decimal_from : Option ℕ → Option ℕ → Logical
 decimal_from None scale = Plain
 decimal_from (Some precision) None = Plain
 decimal_from (Some precision) (Some scale) = Decimal precision scale
 
--- a decimal by its precision and its scale, where both are whole numbers of 32 bits
+-- the decimal that the attributes say
 unfoldable pub decimal_of : Data → Logical
 decimal_of d = decimal_from (precision_of (get (codes "precision") d)) (scale_of (get (codes "scale") d))
 
--- the logical type of bytes
+-- the logical type of bytes and of a fixed type
 unfoldable pub bytes_logical : Data → Logical
 bytes_logical d = if has_logical (codes "decimal") d then decimal_of d else Plain
 

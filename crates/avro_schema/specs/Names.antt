@@ -20,7 +20,7 @@ last_part name = last_from name name
 abbrev pub Names : Type 0
 Names = List (List ℕ × Known)
 
--- what is known of a name's type, if it was defined
+-- what a name stands for, where it is known
 abbrev pub find : List ℕ → Names → Option Known
 find name names = lookup (is_at (slice_cmp nat_cmp name)) names
 
@@ -28,6 +28,6 @@ find name names = lookup (is_at (slice_cmp nat_cmp name)) names
 abbrev pub define : List ℕ → Known → Names → Names
 define name known names = insert_entry (slice_cmp nat_cmp) names name known
 
--- the names of a map, seen as bytes
+-- the known names, from the entries of a map
 abbrev pub names_of : List (String Global × Known) → Names
 names_of entries = map (λ e. (string_bytes e.0, e.1)) entries

@@ -19,6 +19,6 @@ primitive name d =
     else (if bytes_eq name (codes "bytes") then Some (Blob (bytes_logical d))
     else (if bytes_eq name (codes "string") then Some (Str (string_logical d)) else None)))))))
 
--- a name is that of a primitive type
+-- the name is a primitive type's
 unfoldable pub is_primitive : List ℕ → Bool
 is_primitive name = is_some (primitive name json.null)

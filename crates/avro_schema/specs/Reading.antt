@@ -29,17 +29,17 @@ Fault = List ℕ × SchemaCause
 abbrev pub Read : Type 0 → Type 0
 Read A = Result (A × Scope) Fault
 
--- what is read after a value, where that was read
 infixl 10 ◌>>=◌
+-- the second reading goes on with what the first one gave; the first fault is the fault
 abbrev pub ◌>>=◌ : {A B : Type 0} → Result A Fault → (A → Result B Fault) → Result B Fault
 (Ok x) >>= f = f x
 (Err e) >>= f = Err e
 
--- how a tree at a path is read within a scope
+-- how a tree at a path is read in a scope
 abbrev pub Reader : Type 0 → Type 0
 Reader A = List ℕ → Data → Scope → Read A
 
--- the scope with what is known of one name more
+-- a scope with one name more
 abbrev pub defining : List ℕ → Known → Scope → Scope
 defining name known scope = record scope { names = define name known scope.names }
 
@@ -48,13 +48,13 @@ abbrev pub fitting : List ℕ → Schema → Option ℕ → Scope → Read Schem
 fitting path s None scope = Err (path, TooWide)
 fitting path s (Some room) scope = Ok (s, record scope { room = room })
 
--- the type of a name: it is defined, not that being defined, and neither too deep nor too wide here
+-- the schema that a known name stands for, and a fault where it is unknown or still open
 abbrev pub referred : ℕ → List ℕ → Option Known → Scope → Read Schema
 referred most path None scope = Err (path, UnknownName)
 referred most path (Some Open) scope = Err (path, Recursive)
 referred most path (Some (Defined s)) scope = if nat_lt most (depth (form_of s)) then Err (path, TooDeep) else fitting path s (room_behind (width (form_of s)) scope.room) scope
 
--- the type that was defined under a name
+-- the schema that a name stands for
 unfoldable pub reference : ℕ → List ℕ → List ℕ → Scope → Read Schema
 reference most path name scope = referred most path (find name scope.names) scope
 
@@ -63,7 +63,7 @@ abbrev pub primitive_or_reference : ℕ → List ℕ → List ℕ → Option Sch
 primitive_or_reference most path name (Some s) scope = Ok (s, scope)
 primitive_or_reference most path name None scope = reference most path (last_part name) scope
 
--- the type of a word: a primitive one, or one that was defined before
+-- the schema of a type's name: a primitive type, or a reference
 unfoldable pub named : ℕ → List ℕ → List ℕ → Data → Scope → Read Schema
 named most path name d scope = primitive_or_reference most path name (primitive name d) scope
 
@@ -71,7 +71,7 @@ named most path name d scope = primitive_or_reference most path name (primitive 
 abbrev pub free_name : List ℕ → List ℕ → Names → Result (List ℕ) Fault
 free_name path name names = if is_primitive name || is_some (find name names) then Err (key_path path (codes "name"), BadForm) else Ok name
 
--- the name of a definition, which can't be lacking
+-- the name that a type defines: the last part of the text, which isn't taken
 abbrev pub name_from : List ℕ → Option (List ℕ) → Names → Result (List ℕ) Fault
 name_from path None names = Err (key_path path (codes "name"), BadForm)
 name_from path (Some name) names = free_name path (last_part name) names
@@ -85,7 +85,7 @@ abbrev pub fixed_from : List ℕ → List ℕ → Option ℕ → Data → Scope 
 fixed_from path name None d scope = Err (key_path path (codes "size"), BadForm)
 fixed_from path name (Some size) d scope = let s = Fix name size (fixed_logical size d) in Ok (s, defining name (Defined s) scope)
 
--- the fixed that a tree defines
+-- a fixed type: its name and its size
 unfoldable pub fixed_at : List ℕ → Data → Scope → Read Schema
 fixed_at path d scope = new_name path d scope.names >>= λ name. fixed_from path name (option_and_then u32_of (get (codes "size") d)) d scope
 
@@ -94,21 +94,21 @@ abbrev pub symbol_from : List ℕ → Option (List ℕ) → Result (List ℕ) Fa
 symbol_from path None = Err (path, BadForm)
 symbol_from path (Some t) = Ok t
 
--- a symbol, which is a text
+-- a symbol of an enum
 unfoldable pub symbol_at : List ℕ → Data → Result (List ℕ) Fault
 symbol_at path d = symbol_from path (as_str d)
 
--- symbols from the i-th on
+-- the symbols from the index i on
 unfoldable pub symbols_at : List ℕ → ℕ → Items → Result (List (List ℕ)) Fault
 symbols_at path i no_items = Ok []
 symbols_at path i (item d ds) = symbol_at (index_path path i) d >>= λ t. symbols_at path (suc i) ds >>= λ ts. Ok (t ∷ ts)
 
--- the symbols of an enum, which are an array
+-- the symbols of an enum, where they are an array
 abbrev pub symbols_from : List ℕ → Option Items → Result (List (List ℕ)) Fault
 symbols_from path None = Err (path, BadForm)
 symbols_from path (Some ds) = symbols_at path 0 ds
 
--- the enum that a tree defines
+-- an enum: its name and its symbols
 unfoldable pub choice_at : List ℕ → Data → Scope → Read Schema
 choice_at path d scope = new_name path d scope.names >>= λ name. symbols_from (key_path path (codes "symbols")) (option_and_then as_array (get (codes "symbols") d))
     >>= λ symbols. let s = Choice name symbols in Ok (s, defining name (Defined s) scope)
@@ -117,7 +117,7 @@ choice_at path d scope = new_name path d scope.names >>= λ name. symbols_from (
 abbrev pub with_first : {A : Type 0} → A → Read (List A) → Read (List A)
 with_first x read = read >>= λ xs. Ok (x ∷ xs.0, xs.1)
 
--- the items of an array from the i-th on, each read within the scope that the one before left
+-- the items from the index i on, each read in the scope that the one before it left
 unfoldable pub each : {A : Type 0} → Reader A → List ℕ → ℕ → Items → Scope → Read (List A)
 each one path i no_items scope = Ok ([], scope)
 each one path i (item d ds) scope = one (index_path path i) d scope >>= λ x. with_first x.0 (each one path (suc i) ds x.1)
@@ -127,15 +127,15 @@ abbrev pub inner_from : Reader Schema → List ℕ → Option Data → Scope →
 inner_from type path None scope = Err (path, BadForm)
 inner_from type path (Some d) scope = type path d scope
 
--- a type within another, under a key
+-- the schema under a key
 unfoldable pub inner_at : Reader Schema → List ℕ → List ℕ → Data → Scope → Read Schema
 inner_at type path key d scope = inner_from type (key_path path key) (get key d) scope
 
--- the array that a tree says
+-- an array: its items' schema, its id, and whether it stands for a map
 unfoldable pub array_at : Reader Schema → List ℕ → Data → Scope → Read Schema
 array_at type path d scope = inner_at type path (codes "items") d scope >>= λ x. Ok (Array x.0 (id_at (codes "element-id") d) (has_logical (codes "map") d), x.1)
 
--- the map that a tree says
+-- a map: its values' schema, and its ids
 unfoldable pub map_at : Reader Schema → List ℕ → Data → Scope → Read Schema
 map_at type path d scope = inner_at type path (codes "values") d scope >>= λ x. Ok (Pairs x.0 (id_at (codes "key-id") d) (id_at (codes "value-id") d), x.1)
 
@@ -144,16 +144,16 @@ abbrev pub field_from : Reader Schema → List ℕ → Option (List ℕ) → Dat
 field_from type path None d scope = Err (key_path path (codes "name"), BadForm)
 field_from type path (Some name) d scope = inner_at type path (codes "type") d (record scope { room = scope.room - 1 }) >>= λ x. Ok (record { name = name; schema = x.0; field_id = id_at (codes "field-id") d }, x.1)
 
--- a field of a record, which takes one of the room for fields
+-- a record's field, where there is room for one more
 unfoldable pub field_at : Reader Schema → List ℕ → Data → Scope → Read Field
 field_at type path d scope = if scope.room == 0 then Err (path, TooWide) else field_from type path (text_at (codes "name") d) d scope
 
--- the fields of a record, which are an array
+-- a record's fields, where they are an array
 abbrev pub fields_from : Reader Schema → List ℕ → Option Items → Scope → Read (List Field)
 fields_from type path None scope = Err (path, BadForm)
 fields_from type path (Some ds) scope = each (field_at type) path 0 ds scope
 
--- the record that a tree defines, whose name is known from its fields on
+-- a record: its name, which is open within it, and its fields
 unfoldable pub record_at : Reader Schema → List ℕ → Data → Scope → Read Schema
 record_at type path d scope = new_name path d scope.names
     >>= λ name. fields_from type (key_path path (codes "fields")) (option_and_then as_array (get (codes "fields") d)) (defining name Open scope)
@@ -170,11 +170,11 @@ object_from type most path (Some word) d scope =
     else (if bytes_eq word (codes "fixed") then fixed_at path d scope
     else named most (key_path path (codes "type")) word d scope))))
 
--- the type of an object, by the word of its type
+-- the schema of an object, by its type
 unfoldable pub object_at : Reader Schema → ℕ → List ℕ → Data → Scope → Read Schema
 object_at type most path d scope = object_from type most path (text_at (codes "type") d) d scope
 
--- the union of an array of branches
+-- a union: the schemas of its branches
 unfoldable pub union_at : Reader Schema → List ℕ → Items → Scope → Read Schema
 union_at type path ds scope = each type path 0 ds scope >>= λ x. Ok (Union x.0, x.1)
 
@@ -201,7 +201,7 @@ abbrev pub Fails : {A : Type 0} → SchemaErr → Result A Fault → Type 0
 Fails errors.Memory read = Unit {0}
 Fails (errors.Bad path cause) read = read ≡ Err (path, cause)
 
--- what a function returned is what reading gives
+-- what a function returned is what reading gives, unless memory lacks
 abbrev pub Gives : {A : Type 0} → Result A SchemaErr → Result A Fault → Type 0
 Gives (Ok x) read = read ≡ Ok x
 Gives (Err e) read = Fails e read

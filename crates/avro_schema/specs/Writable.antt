@@ -12,7 +12,7 @@ use Rattle.avro_schema.specs.Spelling.{most_types, most_fields}
 
 -- Which logical type goes with which type. The bounds are those of the Rust types.
 
--- an int is plain or a date
+-- a logical type that goes with an int
 abbrev pub GoesWithInt : Logical → Type 0
 GoesWithInt Plain = Unit {0}
 GoesWithInt Date = Unit {0}
@@ -21,7 +21,7 @@ GoesWithInt (TimestampMicros adjust_to_utc) = ⊥
 GoesWithInt (Decimal precision scale) = ⊥
 GoesWithInt Uuid = ⊥
 
--- a long is plain, a time or a timestamp
+-- one that goes with a long
 abbrev pub GoesWithLong : Logical → Type 0
 GoesWithLong Plain = Unit {0}
 GoesWithLong Date = ⊥
@@ -30,7 +30,7 @@ GoesWithLong (TimestampMicros adjust_to_utc) = Unit {0}
 GoesWithLong (Decimal precision scale) = ⊥
 GoesWithLong Uuid = ⊥
 
--- bytes are plain or a decimal
+-- one that goes with bytes
 abbrev pub GoesWithBytes : Logical → Type 0
 GoesWithBytes Plain = Unit {0}
 GoesWithBytes Date = ⊥
@@ -39,7 +39,7 @@ GoesWithBytes (TimestampMicros adjust_to_utc) = ⊥
 GoesWithBytes (Decimal precision scale) = (precision < 2 ^ 32) × (scale < 2 ^ 32)
 GoesWithBytes Uuid = ⊥
 
--- a string is plain or a UUID
+-- one that goes with a string
 abbrev pub GoesWithString : Logical → Type 0
 GoesWithString Plain = Unit {0}
 GoesWithString Date = ⊥
@@ -68,7 +68,7 @@ IsId None = Unit {0}
 IsId (Some (pos n)) = n < 2 ^ 31
 IsId (Some (negsuc n)) = n < 2 ^ 31
 
--- each field's id, if it has one, has 32 bits
+-- each field's id is a number of 32 bits, where it has one
 abbrev pub HaveIds : List Field → Type 0
 HaveIds [] = Unit {0}
 HaveIds (f ∷ fs) = IsId f.field_id × HaveIds fs
@@ -90,7 +90,7 @@ IsSoundLayer (Schema-F.Pairs value key_id value_id) = IsId key_id × IsId value_
 IsSoundLayer (Schema-F.Fields name fields) = IsName name × HaveIds fields
 IsSoundLayer (Schema-F.Union branches) = Unit {0}
 
--- a type is sound: what stands on it itself can be written
+-- a type, apart from those within it, has a right name and right ids, and a logical type that goes with it
 abbrev pub IsSound : Schema → Type 0
 IsSound s = IsSoundLayer (out-Schema s)
 
@@ -111,7 +111,7 @@ name_in (Schema-F.Pairs value key_id value_id) = None
 name_in (Schema-F.Fields name fields) = Some name
 name_in (Schema-F.Union branches) = None
 
--- the name that a type defines
+-- the name that a schema defines, where it defines one
 abbrev pub name_of : Schema → Option (List ℕ)
 name_of s = name_in (out-Schema s)
 

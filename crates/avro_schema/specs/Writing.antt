@@ -18,26 +18,26 @@ use Rattle.avro_schema.specs.declared.schema.Schema.TheOpen.{Schema-F, Field-F}
 
 -- Names that were written, in their order.
 
--- a name is among those that were written
+-- a type of this name was written before
 abbrev pub is_written : List ℕ → List (List ℕ) → Bool
 is_written name names = list_any (is_at (slice_cmp nat_cmp name)) names
 
--- the names with one more
+-- the written names with one more
 abbrev pub with_name : List ℕ → List (List ℕ) → List (List ℕ)
 with_name name names = insert_key (slice_cmp nat_cmp) names name
 
 -- Members.
 
--- the members with an id under a key, if there is one
+-- an object with an id, where there is one
 unfoldable pub put_id : List ℕ → Option ℤ → Members → Members
 put_id key None ms = ms
 put_id key (Some id) ms = put key (number (of_integer id)) ms
 
--- the members with a logical type's word
+-- an object with a logical type's word
 abbrev pub put_word : List ℕ → Members → Members
 put_word word ms = put (codes "logicalType") (string word) ms
 
--- the members with what names a logical type
+-- an object with what is written for a logical type
 unfoldable pub put_logical : Logical → Members → Members
 put_logical Plain ms = ms
 put_logical Date ms = put_word (codes "date") ms
@@ -46,7 +46,7 @@ put_logical (TimestampMicros adjust_to_utc) ms = put (codes "adjust-to-utc") (bo
 put_logical (Decimal precision scale) ms = put (codes "scale") (number (unsigned scale)) (put (codes "precision") (number (unsigned precision)) (put_word (codes "decimal") ms))
 put_logical Uuid ms = put_word (codes "uuid") ms
 
--- an object that has only its type
+-- an object of this type
 abbrev pub typed : List ℕ → Members
 typed word = put (codes "type") (string word) no_members
 
@@ -61,27 +61,27 @@ primitive_tree word (TimestampMicros adjust_to_utc) = object (put_logical (Times
 primitive_tree word (Decimal precision scale) = object (put_logical (Decimal precision scale) (typed word))
 primitive_tree word Uuid = object (put_logical Uuid (typed word))
 
--- a fixed: its name, its size and its logical type
+-- a fixed type
 unfoldable pub fixed_tree : List ℕ → ℕ → Logical → Data
 fixed_tree name size logical = object (put_logical logical (put (codes "size") (number (unsigned size)) (put (codes "name") (string name) (typed (codes "fixed")))))
 
--- an enum: its name and its symbols
+-- an enum
 unfoldable pub choice_tree : List ℕ → List (List ℕ) → Data
 choice_tree name symbols = object (put (codes "symbols") (array (strings symbols)) (put (codes "name") (string name) (typed (codes "enum"))))
 
--- the members with the word that makes an array of entries a map, if it is one
+-- an object that says that an array stands for a map, where it does
 unfoldable pub put_map : Bool → Members → Members
 put_map is_map ms = if is_map then put_word (codes "map") ms else ms
 
--- an array: its items' type and id
+-- an array
 unfoldable pub array_tree : Data → Option ℤ → Bool → Data
 array_tree item element_id is_map = object (put_id (codes "element-id") element_id (put_map is_map (put (codes "items") item (typed (codes "array")))))
 
--- a map: its values' type, and the ids of its keys and values
+-- a map
 unfoldable pub map_tree : Data → Option ℤ → Option ℤ → Data
 map_tree value key_id value_id = object (put_id (codes "value-id") value_id (put_id (codes "key-id") key_id (put (codes "values") value (typed (codes "map")))))
 
--- a record: its name and its fields
+-- a record
 unfoldable pub record_tree : List ℕ → List Data → Data
 record_tree name fields = object (put (codes "fields") (array (items_of fields)) (put (codes "name") (string name) (typed (codes "record"))))
 
@@ -89,11 +89,11 @@ record_tree name fields = object (put (codes "fields") (array (items_of fields))
 unfoldable pub begins_with_null : Data → Bool
 begins_with_null d = is_text (codes "null") (option_and_then as_str (at 0 d))
 
--- the members with the default null, where the type is a union that begins with it
+-- a field whose type begins with null has the default null
 unfoldable pub put_default : Data → Members → Members
 put_default type ms = if begins_with_null type then put (codes "default") null ms else ms
 
--- a field: its name, its type and its id
+-- a record's field
 unfoldable pub field_tree : List ℕ → Data → Option ℤ → Data
 field_tree name type field_id = object (put_default type (put_id (codes "field-id") field_id (put (codes "name") (string name) (put (codes "type") type no_members))))
 
@@ -110,11 +110,11 @@ abbrev pub written_each : List (Writes Data) → Writes (List Data)
 written_each [] names = ([], names)
 written_each (w ∷ ws) names = ((w names).0 ∷ (written_each ws (w names).1).0, (written_each ws (w names).1).1)
 
--- a field is written as its tree, over its type's
+-- what is written for a field, once its schema is written
 abbrev pub field_step : Field-F (Writes Data) (Writes Data) → Writes Data
 field_step f names = (field_tree f.name (f.schema names).0 f.field_id, (f.schema names).1)
 
--- a type is written as its tree, over those of the types within it
+-- what is written for a schema, once those within it are written
 abbrev pub schema_step : Schema-F (Writes Data) (Writes Data) → Writes Data
 schema_step Schema-F.Null names = (string (codes "null"), names)
 schema_step Schema-F.Bool names = (string (codes "boolean"), names)
@@ -131,11 +131,11 @@ schema_step (Schema-F.Pairs value key_id value_id) names = (map_tree (value name
 schema_step (Schema-F.Fields name fields) names = once name (λ ns. (record_tree name (written_each fields ns).0, (written_each fields ns).1)) names
 schema_step (Schema-F.Union branches) names = (array (items_of (written_each branches names).0), (written_each branches names).1)
 
--- the tree of a type, and the names that are written behind it
+-- what is written for a schema where these names were written before
 abbrev pub written_type : Schema → Writes Data
 written_type = fold-Schema (Writes Data) (Writes Data) schema_step field_step
 
--- the same of a record's field
+-- the same of a field
 abbrev pub written_field : Field → Writes Data
 written_field = fold-Field (Writes Data) (Writes Data) schema_step field_step
 

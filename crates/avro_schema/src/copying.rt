@@ -1,7 +1,7 @@
 ghost use Rattle.std.specs.Prelude.{◌≡◌, IfOk};
 
 use crate::schema::{Field, FieldList, Logical, Schema, SchemaList};
-use crate::text::{Text, TextList};
+use crate::text::Text;
 use sqlite_items::{Boxed, Items};
 use std::alloc::{AllocError, Global};
 
@@ -24,12 +24,19 @@ fn copy_fixed(name: &Text, size: u32, logical: Logical) -> Result<Schema, AllocE
     })
 }
 
-fn copy_choice(alloc: Global, name: &Text, symbols: &TextList) -> Result<Schema, AllocError>
-    ensures { IfOk result (λ s. s ≡ Schema.Choice name.now symbols.now) }
+// a map of these values
+fn map_of(
+    alloc: Global,
+    value: Schema,
+    key_id: Option<i32>,
+    value_id: Option<i32>,
+) -> Result<Schema, AllocError>
+    ensures { IfOk result (λ s. s ≡ Schema.Pairs value key_id value_id) }
 {
-    Ok(Schema::Choice {
-        name: name.copy()?,
-        symbols: symbols.copy(alloc)?,
+    Ok(Schema::Pairs {
+        value: Boxed::new(alloc, value)?,
+        key_id,
+        value_id,
     })
 }
 
@@ -51,7 +58,10 @@ fn copy_schema(alloc: Global, schema: &Schema) -> Result<Schema, AllocError>
             size,
             logical,
         } => copy_fixed(name, *size, *logical)?,
-        Schema::Choice { name, symbols } => copy_choice(alloc, name, symbols)?,
+        Schema::Choice { name, symbols } => Schema::Choice {
+            name: name.copy()?,
+            symbols: symbols.copy(alloc)?,
+        },
         Schema::List {
             item,
             element_id,
@@ -65,11 +75,7 @@ fn copy_schema(alloc: Global, schema: &Schema) -> Result<Schema, AllocError>
             value,
             key_id,
             value_id,
-        } => Schema::Pairs {
-            value: Boxed::new(alloc, copy_schema(alloc, value.get())?)?,
-            key_id: *key_id,
-            value_id: *value_id,
-        },
+        } => map_of(alloc, copy_schema(alloc, value.get())?, *key_id, *value_id)?,
         Schema::Fields { name, fields } => Schema::Fields {
             name: name.copy()?,
             fields: copy_fields(alloc, fields.as_slice())?,

@@ -1,5 +1,5 @@
-use Rattle.std.proofs.Common.{◌<◌, List, [], ◌∷◌, map, subst, sym, arith, codes, IsSomeAnd, IfSome, ◌≡◌, ℕ}
-use Rattle.std.specs.List.{IsDistinct, AllByRecursion}
+use Rattle.std.proofs.Common.{◌<◌, List, [], ◌∷◌, map, subst, sym, arith, codes, IsSomeAnd, IfSome, ◌≡◌, ℕ, zero, suc}
+use Rattle.std.specs.List.{IsDistinct, All, AllByRecursion}
 use Rattle.std.specs.Str.{IsUtf8, bytes_eq}
 use Rattle.avro_container.specs.Container.{Pair, value_of}
 use Rattle.avro_container.proofs.HeaderWritten.{ascii_is_text}
@@ -27,3 +27,14 @@ unfolding alone text
 write_header-requires-clause-codec g c =
     let none : IfSome (value_of (codes "avro.codec") alone) (λ x. x ≡ codes "null") = tt in
     subst (λ m. IfSome (value_of (codes "avro.codec") m) (λ x. x ≡ codes "null")) (sym c.in_ok-meta.ensures) none
+
+texts : All (λ e. IsUtf8 e.0) alone
+unfolding alone text
+texts zero d within =
+    let few : AllByRecursion (λ b. b < 128) (codes "avro.schema") = (omega arith, (omega arith, (omega arith, (omega arith, (omega arith, (omega arith, (omega arith, (omega arith, (omega arith, (omega arith, (omega arith, tt))))))))))) in
+    ascii_is_text (codes "avro.schema") few
+texts (suc k) d within = absurd (omega arith)
+
+pub write_header-requires-clause-utf8 : goal.write_header-requires-clause-utf8
+unfolding alone text
+write_header-requires-clause-utf8 g c = subst (λ m. All (λ e. IsUtf8 e.0) m) (sym c.in_ok-meta.ensures) texts

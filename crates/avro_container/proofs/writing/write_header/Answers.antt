@@ -12,5 +12,6 @@ returns-in-Ok-clause-written c =
       in_order = c.in_ok-pairs.ensures.order;
       is = is;
       spells = header_spells c.args.meta.now pairs c.args.sync.now c.requires.keys c.requires.schema c.requires.codec c.requires.few c.in_ok-pairs.ensures.order
-          c.told-sync (shorter c.args.to.now.items c.put_header.new.to.items (written_header pairs c.args.sync.now) is (omega (arith, c.put_header.new.to.small, c.put_header.new.to.ok)));
+          c.told-sync (shorter c.args.to.now.items c.put_header.new.to.items (written_header pairs c.args.sync.now) is (omega (arith, c.put_header.new.to.small, c.put_header.new.to.ok)))
+          c.requires.utf8;
     }
