@@ -5,12 +5,13 @@ use Rattle.avro_container.specs.Long.{SpellsLong}
 use Rattle.avro_container.specs.Reading.{Read, ◌>>=◌, bytes_at, string_at, ahead}
 use Rattle.avro_container.proofs.Binding.{regrouped, IsRead}
 use Rattle.avro_container.proofs.Again.{number_again, bytes_again, blob_again, string_again, ahead_again, blocks_again}
-use Rattle.avro_datum.specs.declared.fault.DatumCause.{DatumCause}
-use Rattle.avro_datum.specs.declared.fault.DatumCause.TheVariants.{BadBranch, BadEnum}
+use Rattle.avro_pieces.specs.declared.fault.DatumCause.{DatumCause}
+use Rattle.avro_pieces.specs.declared.fault.DatumCause.TheVariants.{BadBranch, BadEnum}
 use Rattle.avro_datum.specs.declared.datum.Datum.{Datum}
 use Rattle.avro_datum.specs.declared.datum.Datum.TheVariants.{Null, Bool as Truth, Int, Long, Float4, Float8, Blob, Str, Fix, Choice, List as Array, Pairs, Fields, Branch}
 use Rattle.avro_datum.specs.Spelling.{IsInt, truth_byte, SpellsEntry, Spells, SpellsAll, SpellsNth}
-use Rattle.avro_datum.specs.Reading.{causes, narrow, int_at, position, position_at, bool_at, entry_at, count_of, read, read_all, read_nth}
+use Rattle.avro_datum.specs.Reading.{entry_at, count_of, read, read_all, read_nth}
+use Rattle.avro_pieces.specs.Pieces.{causes, narrow, int_at, position, position_at, bool_at}
 
 narrow_again : (left : ℕ) (n : ℤ) (rest : List ℕ) → IsInt n → narrow left (n, rest) ≡ Ok (n, rest)
 narrow_again left (pos n) rest h = rw (lt-ltb n (2 ^ 31) h) refl

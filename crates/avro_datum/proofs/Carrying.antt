@@ -1,7 +1,7 @@
 -- Faults handed on by an outer reader.
 use Rattle.std.proofs.Common.{◌≡◌, ℕ, ◌-◌, List, length, Err}
 use Rattle.avro_container.specs.Reading.{Fault, Read}
-use Rattle.avro_datum.specs.declared.fault.DatumCause.{DatumCause}
+use Rattle.avro_pieces.specs.declared.fault.DatumCause.{DatumCause}
 use Rattle.avro_datum.specs.declared.fault.DatumErr.{DatumErr}
 use Rattle.avro_datum.specs.declared.fault.DatumErr.TheVariants as errors
 use Rattle.avro_datum.specs.Reading.{Fails}

@@ -7,12 +7,13 @@ use Rattle.avro_container.specs.Spelling.{Joins, SpellsText, Fronts}
 use Rattle.avro_container.specs.Reading.{Read, ◌>>=◌, number_at, bytes_at, blob_at, string_at, blocks_at}
 use Rattle.avro_container.proofs.Binding.{same_value, same_rest, bind_ok, pass_ok, joined, as_spelled, ends_at, IsFound}
 use Rattle.avro_container.proofs.Found.{number_found, bytes_found, blob_found, string_found, ahead_found, blocks_found}
-use Rattle.avro_datum.specs.declared.fault.DatumCause.{DatumCause}
-use Rattle.avro_datum.specs.declared.fault.DatumCause.TheVariants.{NumberTooLong, BadBranch, BadEnum}
+use Rattle.avro_pieces.specs.declared.fault.DatumCause.{DatumCause}
+use Rattle.avro_pieces.specs.declared.fault.DatumCause.TheVariants.{NumberTooLong, BadBranch, BadEnum}
 use Rattle.avro_datum.specs.declared.datum.Datum.{Datum}
 use Rattle.avro_datum.specs.declared.datum.Datum.TheVariants.{Bool as Truth, Int, Long, Float4, Float8, Blob, Str, Fix, Choice, List as Array, Pairs, Fields, Branch}
 use Rattle.avro_datum.specs.Spelling.{IsInt, truth_byte, most_items, SpellsEntry, Spells, SpellsAll, SpellsNth}
-use Rattle.avro_datum.specs.Reading.{causes, narrow, int_at, position, position_at, bool_at, entry_at, count_of, read, read_all, read_nth}
+use Rattle.avro_datum.specs.Reading.{entry_at, count_of, read, read_all, read_nth}
+use Rattle.avro_pieces.specs.Pieces.{causes, narrow, int_at, position, position_at, bool_at}
 
 narrow_found : (left : ℕ) (n : ℤ × List ℕ) (k : ℤ) (rest : List ℕ) → narrow left n ≡ Ok (k, rest) → IsInt k × (n ≡ (k, rest))
 narrow_found left (pos n, r) k rest e =

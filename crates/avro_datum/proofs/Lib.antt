@@ -5,4 +5,3 @@ pub mod Found
 pub mod Again
 pub mod Values
 pub mod Public
-pub mod Shorts

@@ -6,10 +6,10 @@ use Rattle.avro_container.specs.Growth.{Grows}
 use Rattle.avro_container.specs.Reading.{Read, Fault, end_of}
 use Rattle.avro_container.proofs.Binding.{same_ok, same_value, same_rest, clash}
 use Rattle.avro_datum.specs.declared.datum.Datum.{Datum}
-use Rattle.avro_datum.specs.declared.fault.DatumCause.{DatumCause}
+use Rattle.avro_pieces.specs.declared.fault.DatumCause.{DatumCause}
 use Rattle.avro_datum.specs.declared.fault.DatumErr.{DatumErr}
 use Rattle.avro_datum.specs.declared.fault.DatumErr.TheVariants as errors
-use Rattle.avro_datum.specs.declared.fault.SkipErr.{SkipErr}
+use Rattle.avro_pieces.specs.declared.fault.SkipErr.{SkipErr}
 use Rattle.avro_datum.specs.Reading.{read, Makes, Ends, OnFault}
 use Rattle.avro_datum.specs.Spelling.{IsSpelledAt, NoneAt, ValuesAreApart}
 use Rattle.avro_datum.specs.Writing.{IsOf}

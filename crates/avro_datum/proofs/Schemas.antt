@@ -5,7 +5,7 @@ use Rattle.avro_schema.specs.declared.schema.Field.{Field, fold_out-Field}
 use Rattle.avro_schema.specs.Form.{Form, Forms, form_of, field_form, forms_of, form_step, field_step}
 use Rattle.avro_container.specs.Reading.{Fault, ahead, end_of}
 use Rattle.avro_container.proofs.Ends.{end-ahead}
-use Rattle.avro_datum.specs.declared.fault.DatumCause.{DatumCause}
+use Rattle.avro_pieces.specs.declared.fault.DatumCause.{DatumCause}
 use Rattle.avro_datum.specs.Reading.{read, read_all, read_nth, count_of}
 
 pub field_form-schema : (f : Field) → field_form f ≡ form_of f.schema

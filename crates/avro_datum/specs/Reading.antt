@@ -1,45 +1,16 @@
 -- A value read from left to right, with the first fault that is met.
-use Rattle.std.specs.Prelude.{◌≡◌, ℕ, zero, suc, ℤ, pos, negsuc, ◌-◌, ◌≤◌, List, [], ◌∷◌, length, drop, Result, Ok, Err, Option, Some, None, Bool, true, false, nat_lt, ◌&&◌, ◌^◌, if◌then◌else◌}
-use Rattle.std.specs.Borrow.{Bor}
+use Rattle.std.specs.Prelude.{◌≡◌, ℕ, zero, suc, ◌-◌, ◌≤◌, List, [], ◌∷◌, length, drop, Result, Ok, Err, Option, Some, None}
 use Rattle.avro_schema.specs.Form.{Form, null, boolean, int, long, float4, float8, bytes as blob, string, fixed, choice, array, pairs, fields, union, Forms, no_forms, form}
-use Rattle.avro_container.specs.Reading.{Causes, Read, ◌>>=◌, number_at, bytes_at, blob_at, string_at, with_front, ahead, blocks_at, end_of}
-use Rattle.avro_datum.specs.declared.fault.DatumCause.{DatumCause}
-use Rattle.avro_datum.specs.declared.fault.DatumCause.TheVariants.{Short, NumberTooLong, BadUtf8, BadBranch, BadBool, BadEnum, NegativeLength, BadSize, TooMany}
+use Rattle.avro_container.specs.Reading.{Read, ◌>>=◌, number_at, bytes_at, blob_at, string_at, with_front, ahead, blocks_at, end_of}
+use Rattle.avro_pieces.specs.declared.fault.DatumCause.{DatumCause}
+use Rattle.avro_pieces.specs.declared.fault.DatumCause.TheVariants.{BadBranch, BadEnum}
+use Rattle.avro_pieces.specs.Pieces.{causes, int_at, position_at, bool_at}
 use Rattle.avro_datum.specs.declared.fault.DatumErr.{DatumErr}
 use Rattle.avro_datum.specs.declared.fault.DatumErr.TheVariants as errors
-use Rattle.avro_datum.specs.declared.fault.SkipErr.{SkipErr}
+use Rattle.avro_pieces.specs.declared.fault.SkipErr.{SkipErr}
 use Rattle.avro_datum.specs.declared.datum.Datum.{Datum}
 use Rattle.avro_datum.specs.declared.datum.Datum.TheVariants.{Null, Bool as Truth, Int, Long, Float4, Float8, Blob, Str, Fix, Choice, List as Array, Pairs, Fields, Branch}
 use Rattle.avro_datum.specs.Spelling.{most_items}
-
--- The faults of what a value is made of.
-abbrev pub causes : Causes DatumCause
-causes = record { short = Short; too_long = NumberTooLong; bad_utf8 = BadUtf8; negative_length = NegativeLength; bad_size = BadSize; too_many = TooMany }
-
--- a number of 32 bits
-abbrev pub narrow : ℕ → ℤ × List ℕ → Read DatumCause ℤ
-narrow left (pos n, rest) = if nat_lt n (2 ^ 31) then Ok (pos n, rest) else Err (NumberTooLong, left)
-narrow left (negsuc n, rest) = if nat_lt n (2 ^ 31) then Ok (negsuc n, rest) else Err (NumberTooLong, left)
-
--- A number of 32 bits.
-unfoldable pub int_at : List ℕ → Read DatumCause ℤ
-int_at bytes = number_at causes bytes >>= narrow (length bytes)
-
--- a position below count, of 32 bits
-abbrev pub position : DatumCause → ℕ → ℕ → ℤ × List ℕ → Read DatumCause ℕ
-position above count left (pos n, rest) = if nat_lt n count && nat_lt n (2 ^ 32) then Ok (n, rest) else Err (above, left)
-position above count left (negsuc n, rest) = Err (above, left)
-
--- A position below count.
-unfoldable pub position_at : DatumCause → ℕ → List ℕ → Read DatumCause ℕ
-position_at above count bytes = number_at causes bytes >>= position above count (length bytes)
-
--- one byte, 0 or 1
-unfoldable pub bool_at : List ℕ → Read DatumCause Bool
-bool_at [] = Err (Short, 0)
-bool_at (zero ∷ rest) = Ok (false, rest)
-bool_at (suc zero ∷ rest) = Ok (true, rest)
-bool_at (suc (suc b) ∷ rest) = Err (BadBool, length (suc (suc b) ∷ rest))
 
 -- a key and its value
 unfoldable pub entry_at : (List ℕ → Read DatumCause Datum) → List ℕ → Read DatumCause (List ℕ × Datum)
@@ -113,18 +84,3 @@ Ends bytes (Err e) read = (end_of read ≡ Err (e.cause, length bytes - e.at)) �
 abbrev pub told : {A : Type 0} → Option A → SkipErr → Result A SkipErr
 told (Some x) fault = Ok x
 told None fault = Err fault
-
--- The same as `Makes`, where no memory is taken.
-abbrev pub Gives : {A : Type 0} → List ℕ → Result (A × ℕ) SkipErr → Read DatumCause A → Type 0
-Gives bytes (Ok x) read = (read ≡ Ok (x.0, drop x.1 bytes)) × (x.1 ≤ length bytes)
-Gives bytes (Err e) read = (read ≡ Err (e.cause, length bytes - e.at)) × (e.at ≤ length bytes)
-
--- The same, where what was read is seen by view.
-abbrev pub GivesBy : {A B : Type 0} → (A → B) → List ℕ → Result (A × ℕ) SkipErr → Read DatumCause B → Type 0
-GivesBy view bytes (Ok x) read = (read ≡ Ok (view x.0, drop x.1 bytes)) × (x.1 ≤ length bytes)
-GivesBy view bytes (Err e) read = (read ≡ Err (e.cause, length bytes - e.at)) × (e.at ≤ length bytes)
-
--- The same, where what was read is lent.
-abbrev pub Lends : {A : Type 0} → List ℕ → Result (Bor A × ℕ) SkipErr → Read DatumCause A → Type 0
-Lends bytes (Ok x) read = (read ≡ Ok (x.0.now, drop x.1 bytes)) × (x.1 ≤ length bytes)
-Lends bytes (Err e) read = (read ≡ Err (e.cause, length bytes - e.at)) × (e.at ≤ length bytes)

@@ -10,8 +10,9 @@ ghost use Rattle.avro_datum.specs.declared.datum.Datum.{Datum};
 use crate::datum::Datum;
 use crate::decoding::{record, value};
 use crate::encoding::put;
-use crate::fault::{DatumCause, DatumErr, SkipErr};
+use crate::fault::DatumErr;
 use crate::skipping::past;
+use avro_pieces::{DatumCause, SkipErr};
 use avro_schema::Schema;
 use std::alloc::{AllocError, Global};
 

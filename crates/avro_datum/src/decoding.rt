@@ -4,12 +4,13 @@ ghost use Rattle.std.specs.Prelude.{◌≡◌, IfOk, OnOk, ◌<◌, ◌≤◌, �
 ghost use Rattle.avro_schema.specs.Form.{boolean as of_boolean, int as of_int, long as of_long, float4 as of_float4, float8 as of_float8, bytes as of_bytes, string as of_string, fixed as of_fixed, choice as of_choice, array as of_array, pairs as of_pairs, fields as of_fields, union, form_of, field_form, forms_of};
 ghost use Rattle.avro_container.specs.Reading.{string_at, items_at, blocks_at};
 ghost use Rattle.avro_datum.specs.Spelling.{most_items};
-ghost use Rattle.avro_datum.specs.Reading.{Makes, Adds, causes, entry_at, listed, read, read_all};
+ghost use Rattle.avro_datum.specs.Reading.{Makes, Adds, entry_at, listed, read, read_all};
+ghost use Rattle.avro_pieces.specs.Pieces.{causes};
 
 use crate::datum::{Datum, DatumList, PairList};
-use crate::fault::{DatumCause, DatumErr};
-use crate::pieces::{
-    blob, block_head, int, is_sized, number, part, position, short_blob, text_of, truth,
+use crate::fault::DatumErr;
+use avro_pieces::{
+    DatumCause, blob, block_head, int, is_sized, number, part, position, short_blob, text_of, truth,
 };
 use avro_schema::{Bytes, Field, Schema, Text};
 use sqlite_items::{Boxed, Items};

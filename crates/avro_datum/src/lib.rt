@@ -8,12 +8,12 @@ mod datum;
 mod decoding;
 mod encoding;
 mod fault;
-mod pieces;
 mod skipping;
 
+pub use avro_pieces::{DatumCause, SkipErr};
 pub use calls::{decode, encode, skip, values_are_apart};
 pub use datum::{Datum, DatumList, PairList};
-pub use fault::{DatumCause, DatumErr, SkipErr};
+pub use fault::DatumErr;
 
 #[cfg(test)]
 mod tests;

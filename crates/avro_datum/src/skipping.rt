@@ -7,12 +7,12 @@ ghost use Rattle.std.specs.Prelude.{◌≡◌, ◌≤◌, suc, length, drop, map
 ghost use Rattle.avro_schema.specs.Form.{boolean as of_boolean, int as of_int, long as of_long, float4 as of_float4, float8 as of_float8, bytes as of_bytes, string as of_string, fixed as of_fixed, choice as of_choice, array as of_array, pairs as of_pairs, fields as of_fields, union, form_of, field_form, forms_of};
 ghost use Rattle.avro_container.specs.Reading.{string_at, items_at, blocks_at};
 ghost use Rattle.avro_datum.specs.Spelling.{most_items};
-ghost use Rattle.avro_datum.specs.Reading.{Ends, told, causes, entry_at, read, read_all};
+ghost use Rattle.avro_datum.specs.Reading.{Ends, told, entry_at, read, read_all};
+ghost use Rattle.avro_pieces.specs.Pieces.{causes};
 
-use crate::fault::{DatumCause, SkipErr};
-use crate::pieces::{
-    blob, block_head, int, is_sized, number, part, position, short_blob, short_position, text_of,
-    truth,
+use avro_pieces::{
+    DatumCause, SkipErr, blob, block_head, int, is_sized, number, part, position, short_blob,
+    short_position, text_of, truth,
 };
 use avro_schema::{Field, Schema};
 

@@ -4,10 +4,11 @@ use Rattle.std.proofs.lemmas.List.{length-drop}
 use Rattle.avro_schema.specs.Form.{form_of}
 use Rattle.avro_container.specs.Reading.{with_front, items_at, blocks_at, is_size}
 use Rattle.avro_container.proofs.Loops.{items_go_on, head_stops, last_block, body_stops, wrong_size, next_block, no_turns, between, turns_are}
-use Rattle.avro_datum.specs.declared.fault.DatumCause.TheVariants.{Short, BadSize}
+use Rattle.avro_pieces.specs.declared.fault.DatumCause.TheVariants.{Short, BadSize}
 use Rattle.avro_datum.specs.declared.fault.DatumErr.TheVariants as errors
 use Rattle.avro_datum.specs.Spelling.{most_items}
-use Rattle.avro_datum.specs.Reading.{causes, entry_at, read}
+use Rattle.avro_datum.specs.Reading.{entry_at, read}
+use Rattle.avro_pieces.specs.Pieces.{causes}
 use Rattle.avro_datum.proofs.Carrying.{carries}
 use Rattle.avro_datum.proofs.decoding.+decode.Goals as goal
 

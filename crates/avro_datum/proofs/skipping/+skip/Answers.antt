@@ -4,8 +4,9 @@ use Rattle.avro_schema.specs.Form.{form_of}
 use Rattle.avro_container.specs.Reading.{end_of, is_size}
 use Rattle.avro_container.proofs.Loops.{front-nil, head_stops, last_block, body_stops, wrong_size, next_block, no_turns, between}
 use Rattle.avro_container.proofs.Ends.{items_on, items_over, items_end_in, list_of_end, fault_of_end, end-front}
-use Rattle.avro_datum.specs.declared.fault.DatumCause.TheVariants.{Short, BadSize}
-use Rattle.avro_datum.specs.Reading.{causes, entry_at, read}
+use Rattle.avro_pieces.specs.declared.fault.DatumCause.TheVariants.{Short, BadSize}
+use Rattle.avro_datum.specs.Reading.{entry_at, read}
+use Rattle.avro_pieces.specs.Pieces.{causes}
 use Rattle.avro_datum.proofs.skipping.+skip.Goals as goal
 
 pub past_some-returns-in_err-end : goal.past_some-returns-in_err-end

@@ -2,7 +2,8 @@ use Rattle.std.proofs.Common.{◌≡◌, ◌≤◌, ◌-◌, suc, length, drop}
 use Rattle.avro_schema.specs.Form.{form_of}
 use Rattle.avro_container.specs.Reading.{end_of, items_at, blocks_at}
 use Rattle.avro_datum.specs.Spelling.{most_items}
-use Rattle.avro_datum.specs.Reading.{causes, entry_at, read, read_all}
+use Rattle.avro_datum.specs.Reading.{entry_at, read, read_all}
+use Rattle.avro_pieces.specs.Pieces.{causes}
 use Rattle.avro_datum.proofs.Schemas.{forms}
 use Rattle.avro_datum.proofs.skipping.+skip.Given as goal
 

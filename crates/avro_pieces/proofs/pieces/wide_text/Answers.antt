@@ -1,7 +1,7 @@
 use Rattle.std.proofs.Common.{sym}
 use Rattle.std.proofs.lemmas.Str.{is_utf8-from_IsUtf8}
 use Rattle.avro_container.proofs.Texts.{not_text}
-use Rattle.avro_datum.proofs.pieces.wide_text.Goals as goal
+use Rattle.avro_pieces.proofs.pieces.wide_text.Goals as goal
 
 pub returns-in-Ok : goal.returns-in-Ok
 returns-in-Ok c = (is_utf8-from_IsUtf8 _ (c.in-Ok.ensures.cases.1), c.in-Ok.ensures.cases.0)

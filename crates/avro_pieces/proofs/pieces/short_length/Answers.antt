@@ -1,6 +1,6 @@
 use Rattle.std.proofs.Common.{◌+◌, get_or, arith}
-use Rattle.avro_datum.proofs.Shorts.{front_at, one_byte, two_bytes, as_length}
-use Rattle.avro_datum.proofs.pieces.short_length.Goals as goal
+use Rattle.avro_pieces.proofs.Shorts.{front_at, one_byte, two_bytes, as_length}
+use Rattle.avro_pieces.proofs.pieces.short_length.Goals as goal
 
 pub returns-then-first-lt128 : goal.returns-then-first-lt128
 returns-then-first-lt128 c =

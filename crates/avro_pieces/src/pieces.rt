@@ -1,25 +1,26 @@
-//! The parts of which values are made, read without taking memory.
+//! The parts, each read from a place within the bytes: what was read, and where it ends.
 
 ghost use Rattle.std.specs.Prelude.{◌≡◌, ◌≤◌, ◌<◌, ◌+◌, pos, length, drop, Ok, IfOk, IfSome, MatchOption, true, false};
 ghost use Rattle.std.specs.Str.{is_utf8};
 ghost use Rattle.avro_container.specs.Reading.{number_at, length_at, bytes_at, blob_at, head_at, is_size};
-ghost use Rattle.avro_datum.specs.Reading.{Gives, GivesBy, Lends, causes, int_at, position_at, bool_at};
-ghost use Rattle.avro_datum.specs.declared.pieces.Head.{Head};
-ghost use Rattle.avro_datum.specs.declared.fault.DatumCause.{DatumCause};
+ghost use Rattle.avro_pieces.specs.Pieces.{Gives, GivesBy, Lends, causes, int_at, position_at, bool_at};
+ghost use Rattle.avro_pieces.specs.declared.pieces.Head.{Head};
+ghost use Rattle.avro_pieces.specs.declared.fault.DatumCause.{DatumCause};
 
 use crate::fault::{DatumCause, SkipErr};
 use avro_container::{NumErr, read_long};
 
 /// What the head of a block of items says: their count, and their number of bytes where it states one.
 #[derive(Clone, Copy)]
-pub(crate) struct Head {
+pub struct Head {
     pub count: u64,
     pub size: Option<i64>,
 }
 
+/// A number of 64 bits.
 #[inline(always)]
 #[tactic(auto, unfolding(avro_container::specs::Reading::number_at))]
-pub(crate) fn number(bytes: &[u8], at: usize) -> Result<(i64, usize), SkipErr>
+pub fn number(bytes: &[u8], at: usize) -> Result<(i64, usize), SkipErr>
     requires { at ≤ length bytes.now }
     ensures { Gives bytes.now result (number_at causes (drop at bytes.now)) }
 {
@@ -37,8 +38,8 @@ pub(crate) fn number(bytes: &[u8], at: usize) -> Result<(i64, usize), SkipErr>
 }
 
 /// A number of 32 bits.
-#[tactic(auto, unfolding(crate::specs::Reading::int_at))]
-pub(crate) fn int(bytes: &[u8], at: usize) -> Result<(i32, usize), SkipErr>
+#[tactic(auto, unfolding(crate::specs::Pieces::int_at))]
+pub fn int(bytes: &[u8], at: usize) -> Result<(i32, usize), SkipErr>
     requires { at ≤ length bytes.now }
     ensures { Gives bytes.now result (int_at (drop at bytes.now)) }
 {
@@ -55,7 +56,7 @@ pub(crate) fn int(bytes: &[u8], at: usize) -> Result<(i32, usize), SkipErr>
 /// So many bytes.
 #[inline(always)]
 #[tactic(auto, unfolding(avro_container::specs::Reading::bytes_at))]
-pub(crate) fn part(bytes: &[u8], at: usize, n: usize) -> Result<(&[u8], usize), SkipErr>
+pub fn part(bytes: &[u8], at: usize, n: usize) -> Result<(&[u8], usize), SkipErr>
     requires { at ≤ length bytes.now }
     ensures value { Lends bytes.now result (bytes_at causes n (drop at bytes.now)) }
     ensures count { IfOk result (λ x. length x.0.now ≡ n) }
@@ -86,7 +87,7 @@ fn length(bytes: &[u8], at: usize) -> Result<(usize, usize), SkipErr>
 
 /// A length, and so many bytes.
 #[tactic(auto, unfolding(avro_container::specs::Reading::blob_at))]
-pub(crate) fn blob(bytes: &[u8], at: usize) -> Result<(&[u8], usize), SkipErr>
+pub fn blob(bytes: &[u8], at: usize) -> Result<(&[u8], usize), SkipErr>
     requires { at ≤ length bytes.now }
     ensures { Lends bytes.now result (blob_at causes (drop at bytes.now)) }
 {
@@ -97,7 +98,7 @@ pub(crate) fn blob(bytes: &[u8], at: usize) -> Result<(&[u8], usize), SkipErr>
 
 /// The bytes as a text, where they are UTF-8. Most texts are ASCII, which is sooner seen.
 #[inline(always)]
-pub(crate) fn text_of(bytes: &[u8]) -> Option<&str>
+pub fn text_of(bytes: &[u8]) -> Option<&str>
     ensures { MatchOption result (is_utf8 bytes.now ≡ false) (λ t. (is_utf8 bytes.now ≡ true) × (t.now ≡ bytes.now)) }
 {
     if bytes.is_ascii() {
@@ -118,7 +119,7 @@ fn wide_text(bytes: &[u8]) -> Option<&str>
 
 /// A position below `count`; any other is the fault `above`.
 #[inline(always)]
-pub(crate) fn position(
+pub fn position(
     count: usize,
     bytes: &[u8],
     at: usize,
@@ -135,7 +136,7 @@ pub(crate) fn position(
 }
 
 #[inline(never)]
-#[tactic(auto, unfolding(crate::specs::Reading::position_at))]
+#[tactic(auto, unfolding(crate::specs::Pieces::position_at))]
 fn any_position(
     count: usize,
     bytes: &[u8],
@@ -201,7 +202,7 @@ fn short_length(bytes: &[u8], at: usize) -> Option<(usize, usize)>
 /// Such a length, and so many bytes.
 #[inline(always)]
 #[tactic(auto, unfolding(avro_container::specs::Reading::blob_at))]
-pub(crate) fn short_blob(bytes: &[u8], at: usize) -> Option<(&[u8], usize)>
+pub fn short_blob(bytes: &[u8], at: usize) -> Option<(&[u8], usize)>
     ensures { IfSome result (λ x. (blob_at causes (drop at bytes.now) ≡ Ok (x.0.now, drop x.1 bytes.now)) × (x.1 ≤ length bytes.now)) }
 {
     let (len, from) = short_length(bytes, at)?;
@@ -213,7 +214,7 @@ pub(crate) fn short_blob(bytes: &[u8], at: usize) -> Option<(&[u8], usize)>
 
 /// A position below `count`, and one byte of it.
 #[inline(always)]
-pub(crate) fn short_position(count: usize, bytes: &[u8], at: usize) -> Option<u32>
+pub fn short_position(count: usize, bytes: &[u8], at: usize) -> Option<u32>
     ensures within { IfSome result (λ n. (n < count) × (at < length bytes.now)) }
     ensures value { IfSome result (λ n. (above : DatumCause) → position_at above count (drop at bytes.now) ≡ Ok (n, drop (at + 1) bytes.now)) }
 {
@@ -225,8 +226,8 @@ pub(crate) fn short_position(count: usize, bytes: &[u8], at: usize) -> Option<u3
 }
 
 /// One byte, 0 or 1.
-#[tactic(auto, unfolding(crate::specs::Reading::bool_at))]
-pub(crate) fn truth(bytes: &[u8], at: usize) -> Result<(bool, usize), SkipErr>
+#[tactic(auto, unfolding(crate::specs::Pieces::bool_at))]
+pub fn truth(bytes: &[u8], at: usize) -> Result<(bool, usize), SkipErr>
     requires { at ≤ length bytes.now }
     ensures { Gives bytes.now result (bool_at (drop at bytes.now)) }
 {
@@ -246,7 +247,7 @@ pub(crate) fn truth(bytes: &[u8], at: usize) -> Result<(bool, usize), SkipErr>
 
 /// The head of a block of which no more than `room` items may come.
 #[tactic(auto, unfolding(avro_container::specs::Reading::head_at))]
-pub(crate) fn block_head(bytes: &[u8], at: usize, room: u64) -> Result<(Head, usize), SkipErr>
+pub fn block_head(bytes: &[u8], at: usize, room: u64) -> Result<(Head, usize), SkipErr>
     requires { at ≤ length bytes.now }
     ensures within { IfOk result (λ x. x.0.count ≤ room) }
     ensures value { GivesBy (λ (h : Head). (h.count, h.size)) bytes.now result (head_at causes room (drop at bytes.now)) }
@@ -272,7 +273,8 @@ pub(crate) fn block_head(bytes: &[u8], at: usize, room: u64) -> Result<(Head, us
     ))
 }
 
-pub(crate) fn is_sized(size: Option<i64>, len: usize) -> bool
+/// Whether the size that a block states, if it states one, is this length.
+pub fn is_sized(size: Option<i64>, len: usize) -> bool
     ensures { result ≡ is_size size len }
 {
     match size {

@@ -1,5 +1,5 @@
 use Rattle.std.proofs.lemmas.Str.{IsUtf8-from_ascii, is_utf8-from_IsUtf8}
-use Rattle.avro_datum.proofs.pieces.text_of.Goals as goal
+use Rattle.avro_pieces.proofs.pieces.text_of.Goals as goal
 
 pub from_utf8_unchecked-requires : goal.from_utf8_unchecked-requires
 from_utf8_unchecked-requires c = IsUtf8-from_ascii _ (rw c.if-is_ascii.true at c.is_ascii.ensures.cases)

@@ -3,8 +3,8 @@ use Rattle.std.proofs.Common.{◌≡◌, ℕ, pos, ◌/◌, ◌%◌, ◌<◌, �
 use Rattle.avro_container.specs.LongReading.{long_at, with_sign}
 use Rattle.avro_container.specs.Reading.{◌>>=◌, as_read, number_at, natural, length_at}
 use Rattle.avro_container.proofs.LongGroups.{one_group, two_groups}
-use Rattle.avro_datum.specs.declared.fault.DatumCause.{DatumCause}
-use Rattle.avro_datum.specs.Reading.{causes, position, position_at}
+use Rattle.avro_pieces.specs.declared.fault.DatumCause.{DatumCause}
+use Rattle.avro_pieces.specs.Pieces.{causes, position, position_at}
 
 pub front_at : (bs : List ℕ) (i : ℕ) → i < length bs → drop i bs ≡ get_or bs i 0 ∷ drop (i + 1) bs
 front_at bs i h = rw add-one (drop-cons bs i 0 h)

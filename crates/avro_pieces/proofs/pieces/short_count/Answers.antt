@@ -1,6 +1,6 @@
 use Rattle.std.proofs.Common.{get_or}
-use Rattle.avro_datum.proofs.Shorts.{front_at, one_byte}
-use Rattle.avro_datum.proofs.pieces.short_count.Goals as goal
+use Rattle.avro_pieces.proofs.Shorts.{front_at, one_byte}
+use Rattle.avro_pieces.proofs.pieces.short_count.Goals as goal
 
 pub returns-then-byte-eq0-clause-number : goal.returns-then-byte-eq0-clause-number
 returns-then-byte-eq0-clause-number c =

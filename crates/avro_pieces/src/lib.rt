@@ -1,0 +1,12 @@
+//! The parts of which Avro values are made (Apache Avro 1.11, "Binary Encoding"), read without taking memory; and what can
+//! be wrong with the bytes of a value.
+#![tactic(auto)]
+
+mod fault;
+mod pieces;
+
+pub use fault::{DatumCause, SkipErr};
+pub use pieces::{
+    Head, blob, block_head, int, is_sized, number, part, position, short_blob, short_position,
+    text_of, truth,
+};
