@@ -39,7 +39,7 @@ row = "\n# `ice_store`\n\n| Call | Needs | Promises | In words |\n|---|---|---|-
 # for each fault: the file, what is added to it, and what a finding there has to say
 faults = [
     (f"{STORE}/src/text.rt", function("wordy", "    ensures { " + "so " * 70 + "}\n"), "wordy, ensures: 2"),
-    (f"{STORE}/src/text.rt", function("lengthy", lines=41), "lengthy has 41 lines"),
+    (f"{STORE}/src/text.rt", function("lengthy", lines=99), "lengthy has 99 lines"),
     (f"{STORE}/src/many.rt", "".join(function(f"one_{n}") for n in range(101)), None),
     (f"{STORE}/src", "", "functions outside tests"),
     *((f"{STORE}/must-fail/wrong_{n}.edit", "file: src/text.rt\nold: a\nnew: b\n", None) for n in range(11)),
