@@ -196,16 +196,16 @@ fn what_was_taken_away_is_not_durable(rt: HostRuntime) -> Result<(), Fail> {
     Ok(())
 }
 
+// how many files were created, up to the first that wasn't
 fn create_many(rt: &HostRuntime, store: &mut RealStore, count: usize) -> Result<usize, Fail> {
-    let mut made = 0;
     for n in 0..count {
         let name = format!(in rt.alloc(); "many/{n}")?;
         match store.create(&here(rt, name.as_str())?) {
-            Ok(Made::New) => made += 1,
-            _ => return Ok(made),
+            Ok(Made::New) => {}
+            _ => return Ok(n),
         }
     }
-    Ok(made)
+    Ok(count)
 }
 
 #[test]

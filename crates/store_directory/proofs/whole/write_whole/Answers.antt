@@ -1,4 +1,4 @@
-use Rattle.std.proofs.Common.{◌≡◌, ℕ, ◌-◌, List, [], ◌++◌, Option, None, Some, length, take, drop, sym, ap, ◌∙◌, subst, append_assoc, take-append-drop, le_refl}
+use Rattle.std.proofs.Common.{◌≡◌, ℕ, ◌-◌, List, ◌++◌, Option, None, Some, length, take, drop, sym, ap, ◌∙◌, subst, append_assoc, take-append-drop, le_refl}
 use Rattle.std.proofs.lemmas.List.{take_rest, take-append-le, take_all}
 use Rattle.std.specs.Io.KnownBytes.{Appends, Keeps}
 use Rattle.std.proofs.KnownBytes.{Appends-trans}
