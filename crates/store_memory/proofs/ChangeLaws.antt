@@ -1,11 +1,11 @@
 -- The first file at a place, changed by its number.
-use Rattle.std.proofs.Common.{◌≡◌, ℕ, zero, suc, ◌<◌, ◌≤◌, true, false, List, [], ◌∷◌, length, get_or, position, take, drop, ◌++◌, Some, None, refl, sym, ap, ◌∙◌, arith}
+use Rattle.std.proofs.Common.{◌≡◌, ℕ, zero, suc, ◌<◌, ◌≤◌, true, false, List, [], ◌∷◌, length, get_or, position, take, drop, ◌++◌, Option, Some, None, refl, sym, ap, ◌∙◌, arith}
 use Rattle.std.specs.List.{position_or_len}
 use Rattle.std.proofs.Math.ListN.{set}
 use Rattle.std.proofs.lemmas.Bool.Decides.{nat_tests}
 use Rattle.std.proofs.lemmas.List.Quantifiers.{position-Some}
 use Rattle.ice_store.specs.Places.{Parts, same_place}
-use Rattle.ice_store.specs.Files.{changed, find, without}
+use Rattle.ice_store.specs.Files.{changed, find, without, renamed, renamed_by}
 use Rattle.ice_store.proofs.FileLaws.{by_test, find_head, find_tail, drop_head, keep_head}
 use Rattle.ice_store.specs.declared.history.Held.{Held}
 
@@ -81,3 +81,17 @@ module _ (place : Parts) where
   none_taken files e =
       let le : length files ≤ position_or_len (λ held. same_place held.place place) files = grind (arith, nat_tests) in
       nobody_there files le
+
+pub without_none : (files : List Held) (place : Parts) → find files place ≡ None → without files place ≡ files
+without_none [] place none = refl
+without_none (held ∷ files) place none = by_test (same_place held.place place)
+    (λ e. absurd (cc (none, find_head held files place e)))
+    (λ e. keep_head held files place e ∙ ap (λ (l : List Held). held ∷ l) (without_none files place (sym (find_tail held files place e) ∙ none)))
+
+-- where no file stands, none is moved
+pub renamed_none : (files : List Held) (from to : Parts) → find files from ≡ None → without files from ≡ renamed from to files
+renamed_none files from to none = without_none files from none ∙ sym (ap (λ (o : Option Held). renamed_by o from to files) none)
+
+pub none_of : (o : Option Held) → ((x : Held) → o ≡ Some x → ⊥) → o ≡ None
+none_of None away = refl
+none_of (Some x) away = absurd (away x refl)
