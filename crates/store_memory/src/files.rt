@@ -127,12 +127,7 @@ fn seal_file(files: &mut Vec<Held>, place: &Place)
     }
 }
 
-fn append_file(
-    files: &mut Vec<Held>,
-    place: &Place,
-    more: &[u8],
-    ms: u64,
-) -> Result<(), AllocError>
+fn append_file(files: &mut Vec<Held>, place: &Place, more: &[u8], ms: u64) -> Result<(), AllocError>
     ensures ok { OnOk result (files.new.items ≡ changed (appended more.now ms) files.old.items place.now) }
     ensures err { OnErr result (files.new.items ≡ files.old.items) }
 {

@@ -166,12 +166,7 @@ fn follow_ours(
 }
 
 // The files alone follow a step of others.
-fn follow_theirs(
-    alloc: Global,
-    files: &mut Files,
-    step: &Step,
-    ms: u64,
-) -> Result<(), AllocError>
+fn follow_theirs(alloc: Global, files: &mut Files, step: &Step, ms: u64) -> Result<(), AllocError>
     ensures ok { OnOk result (files.new ≡ files_after files.old step.now Them ms) }
     ensures err { OnErr result (files.new ≡ files.old) }
 {
