@@ -1,13 +1,110 @@
 //! Files in memory, by their places.
-ghost use Rattle.std.specs.Prelude.{◌≡◌, [], position, OnOk, IfOk};
+ghost use Rattle.std.specs.Prelude.{◌≡◌, ◌≤◌, ◌+◌, ◌++◌, ◌∷◌, [], position, OnOk, OnErr, IfOk, vec_len, vec_capacity};
 ghost use Rattle.std.specs.Option.{option_copied};
 ghost use Rattle.ice_store.specs.Calls.{IsListing};
 ghost use Rattle.ice_store.specs.Places.{same_place};
-ghost use Rattle.ice_store.specs.Files.{find, without, changed, renamed};
-ghost use Rattle.ice_store.specs.History.{appended, sealed, files_after, pending_by, base_from};
+ghost use Rattle.ice_store.specs.Files.{find, without, changed, put, renamed};
+ghost use Rattle.ice_store.specs.History.{appended, sealed, base_from};
 
-use ice_store::{Bytes, FileRec, Held, Listed, NameChange, Place, Step, Who};
+use ice_store::{FileRec, Held, Listed, Place};
 use std::alloc::{AllocError, Global};
+use std::marker::Model;
+
+/// The files of a directory, in the order in which they came to their places: contracts see the list of them.
+#[derive(Debug, Drop)]
+pub struct Files {
+    held: Vec<Held>,
+}
+
+impl Model for Files {
+    ghost use Rattle.std.specs.Prelude.{List};
+    ghost use Rattle.ice_store.specs.declared.history.Held.{Held};
+
+    ghost Value = { List Held };
+
+    ghost view = { λ f. f.held.items };
+}
+
+impl Files {
+    /// The files at first: of several with one place the first counts.
+    pub fn of_base(alloc: Global, base: &[FileRec]) -> Result<Files, AllocError>
+        ensures { IfOk result (λ f. f ≡ base_from [] base.now) }
+    {
+        Ok(Files {
+            held: start_files(alloc, base)?,
+        })
+    }
+
+    /// The file at a place. Takes no memory.
+    pub fn find(&self, place: &Place) -> Option<&Held>
+        ensures { option_copied result ≡ find self.now place.now }
+    {
+        find_file(&self.held, place)
+    }
+
+    /// Puts a file at its place, where then no other stands. Without memory the files stay as they were.
+    pub fn put(&mut self, held: Held) -> Result<(), AllocError>
+        ensures ok { OnOk result (self.new ≡ put held self.old) }
+        ensures err { OnErr result (self.new ≡ self.old) }
+    {
+        self.held.reserve(1)?;
+        drop_file(&mut self.held, &held.place);
+        push_reserved(&mut self.held, held);
+        Ok(())
+    }
+
+    /// Adds bytes to a file, where it stands. Without memory the files stay as they were.
+    pub fn append(&mut self, place: &Place, more: &[u8], ms: u64) -> Result<(), AllocError>
+        ensures ok { OnOk result (self.new ≡ changed (appended more.now ms) self.old place.now) }
+        ensures err { OnErr result (self.new ≡ self.old) }
+    {
+        append_file(&mut self.held, place, more, ms)
+    }
+
+    /// Seals a file, where it stands.
+    pub fn seal(&mut self, place: &Place)
+        ensures { self.new ≡ changed sealed self.old place.now }
+    {
+        seal_file(&mut self.held, place);
+    }
+
+    /// Moves a file, where it stands, to a place where then no other stands. Without memory the files stay as they were.
+    pub fn rename(&mut self, from: &Place, to: &Place) -> Result<(), AllocError>
+        ensures ok { OnOk result (self.new ≡ renamed from.now to.now self.old) }
+        ensures err { OnErr result (self.new ≡ self.old) }
+    {
+        let to = to.copy()?;
+        self.held.reserve(1)?;
+        if let Some(mut held) = take_file(&mut self.held, from) {
+            held.place = to;
+            drop_file(&mut self.held, &held.place);
+            push_reserved(&mut self.held, held);
+        }
+        Ok(())
+    }
+
+    /// Takes away the file at a place, and gives it back.
+    pub fn remove(&mut self, place: &Place) -> Option<Held>
+        ensures value { result ≡ find self.old place.now }
+        ensures files { self.new ≡ without self.old place.now }
+    {
+        take_file(&mut self.held, place)
+    }
+
+    /// Equal files.
+    pub fn copies(&self) -> Result<Vec<Held>, AllocError>
+        ensures { IfOk result (λ v. v.items ≡ self.now) }
+    {
+        self.held.clone()
+    }
+
+    /// The files under a directory, in place order.
+    pub fn list(&self, alloc: Global, dir: &Place) -> Result<Vec<Listed>, AllocError>
+        ensures { IfOk result (λ v. IsListing dir.now self.now v.items) }
+    {
+        list_files(alloc, &self.held, dir)
+    }
+}
 
 /// The file at a place.
 pub fn find_file<'a>(files: &'a [Held], place: &Place) -> Option<&'a Held>
@@ -30,121 +127,42 @@ fn seal_file(files: &mut Vec<Held>, place: &Place)
     }
 }
 
-fn append_file(
-    files: &mut Vec<Held>,
-    place: &Place,
-    more: &Bytes,
-    ms: u64,
-) -> Result<(), AllocError>
-    ensures { OnOk result (files.new.items ≡ changed (appended more.now ms) files.old.items place.now) }
+fn append_file(files: &mut Vec<Held>, place: &Place, more: &[u8], ms: u64) -> Result<(), AllocError>
+    ensures ok { OnOk result (files.new.items ≡ changed (appended more.now ms) files.old.items place.now) }
+    ensures err { OnErr result (files.new.items ≡ files.old.items) }
 {
     if let Some(i) = index_of(files, place) {
         let held = &mut files[i];
-        held.bytes.extend(more.inner())?;
+        held.bytes.extend(more)?;
         held.ms = ms;
     }
     Ok(())
 }
 
-/// Moves a file, where it stands, to a place where then no other stands.
-pub fn move_file(files: &mut Vec<Held>, from: &Place, to: &Place) -> Result<(), AllocError>
-    ensures { OnOk result (files.new.items ≡ renamed from.now to.now files.old.items) }
+// Takes away what stands at a place, and gives the first of it back.
+fn take_file(files: &mut Vec<Held>, place: &Place) -> Option<Held>
+    ensures value { result ≡ find files.old.items place.now }
+    ensures files { files.new.items ≡ without files.old.items place.now }
+    ensures room { vec_len files.new ≤ vec_len files.old }
+    ensures capacity { vec_capacity files.new ≡ vec_capacity files.old }
 {
-    if let Some(held) = find_file(files, from) {
-        let mut held = held.copy()?;
-        held.place = to.copy()?;
-        drop_file(files, from);
-        drop_file(files, to);
-        files.push(held)?;
-    }
-    Ok(())
+    let index = index_of(files, place)?;
+    let held = files.remove(index);
+    drop_file(files, place);
+    Some(held)
 }
 
 /// Takes away what stands at a place.
 pub fn drop_file(files: &mut Vec<Held>, place: &Place)
-    ensures { files.new.items ≡ without files.old.items place.now }
+    ensures files { files.new.items ≡ without files.old.items place.now }
+    ensures room { vec_len files.new ≤ vec_len files.old }
+    ensures capacity { vec_capacity files.new ≡ vec_capacity files.old }
 {
     files.retain(|held| !held.place.is(place))
 }
 
-/// Equal files.
-pub fn copy_files(files: &Vec<Held>) -> Result<Vec<Held>, AllocError>
-    ensures { IfOk result (λ v. v.items ≡ files.now.items) }
-{
-    files.clone()
-}
-
-fn copy_changes(alloc: Global, changes: &[NameChange]) -> Result<Vec<NameChange>, AllocError>
-    ensures { IfOk result (λ v. v.items ≡ changes.now) }
-{
-    let mut next = Vec::new(alloc);
-    for change in changes {
-        next.push(change.copy()?)?;
-    }
-    Ok(next)
-}
-
-/// The files after a step.
-pub fn next_files(
-    alloc: Global,
-    files: &Vec<Held>,
-    step: &Step,
-    who: Who,
-    ms: u64,
-) -> Result<Vec<Held>, AllocError>
-    ensures { IfOk result (λ v. v.items ≡ files_after files.now.items step.now who ms) }
-{
-    let mut next = copy_files(files)?;
-    match step {
-        Step::Create(place) => {
-            drop_file(&mut next, place);
-            next.push(Held {
-                place: place.copy()?,
-                bytes: Bytes::new(Vec::new(alloc)),
-                ms,
-                is_sealed: false,
-                maker: Some(who),
-            })?;
-        }
-        Step::Append(place, more) => append_file(&mut next, place, more, ms)?,
-        Step::Seal(place) => seal_file(&mut next, place),
-        Step::Rename(from, to) => move_file(&mut next, from, to)?,
-        Step::Remove(place) => drop_file(&mut next, place),
-        Step::SyncNames => {}
-    }
-    Ok(next)
-}
-
-/// The pending name changes after a step.
-pub fn next_pending(
-    alloc: Global,
-    files: &Vec<Held>,
-    pending: &Vec<NameChange>,
-    step: &Step,
-    who: Who,
-) -> Result<Vec<NameChange>, AllocError>
-    ensures { IfOk result (λ v. v.items ≡ pending_by who (record { files = files.now.items; pending = pending.now.items }) step.now) }
-{
-    if who == Who::Them {
-        return Ok(Vec::new(alloc));
-    }
-    let mut next = copy_changes(alloc, pending)?;
-    match step {
-        Step::Create(place) => next.push(NameChange::Created(place.copy()?))?,
-        Step::Rename(from, to) => next.push(NameChange::Renamed(from.copy()?, to.copy()?))?,
-        Step::Remove(place) => {
-            if let Some(held) = find_file(files, place) {
-                next.push(NameChange::Removed(held.copy()?))?;
-            }
-        }
-        Step::Append(_, _) | Step::Seal(_) => {}
-        Step::SyncNames => next.clear(),
-    }
-    Ok(next)
-}
-
-/// The files at first: of several with one place the first counts.
-pub fn start_files(alloc: Global, base: &[FileRec]) -> Result<Vec<Held>, AllocError>
+// The files at first: of several with one place the first counts.
+fn start_files(alloc: Global, base: &[FileRec]) -> Result<Vec<Held>, AllocError>
     ensures { IfOk result (λ v. v.items ≡ base_from [] base.now) }
 {
     let mut files: Vec<Held> = Vec::new(alloc);
@@ -162,8 +180,7 @@ pub fn start_files(alloc: Global, base: &[FileRec]) -> Result<Vec<Held>, AllocEr
     Ok(files)
 }
 
-/// The files under a directory, in place order.
-pub fn list_files(alloc: Global, files: &[Held], dir: &Place) -> Result<Vec<Listed>, AllocError>
+fn list_files(alloc: Global, files: &[Held], dir: &Place) -> Result<Vec<Listed>, AllocError>
     ensures { IfOk result (λ v. IsListing dir.now files.now v.items) }
 {
     let mut listed = Vec::new(alloc);
@@ -178,4 +195,12 @@ pub fn list_files(alloc: Global, files: &[Held], dir: &Place) -> Result<Vec<List
     }
     listed.sort()?;
     Ok(listed)
+}
+
+// There is room for it.
+fn push_reserved(files: &mut Vec<Held>, held: Held)
+    requires { vec_len files.old + 1 ≤ vec_capacity files.old }
+    ensures { files.new.items ≡ files.old.items ++ held ∷ [] }
+{
+    let _ = files.push(held);
 }

@@ -1,11 +1,11 @@
 //! What a crash leaves, by its choices.
-ghost use Rattle.std.specs.Prelude.{◌≡◌, IfOk, OnOk, map};
+ghost use Rattle.std.specs.Prelude.{◌≡◌, ◌++◌, ◌∷◌, [], IfOk, OnOk, map};
 ghost use Rattle.std.specs.Option.{option_copied};
-ghost use Rattle.ice_store.specs.Files.{put};
+ghost use Rattle.ice_store.specs.Files.{find, put, renamed, without};
 ghost use Rattle.ice_store.specs.History.{undone, names_by, settled};
 ghost use Rattle.store_memory.specs.Torn.{torn_at};
 
-use crate::files::{drop_file, move_file};
+use crate::files::find_file;
 use ice_store::{Bytes, FileRec, Held, Items, NameChange, Place};
 use std::alloc::{AllocError, Global};
 
@@ -28,6 +28,26 @@ pub type TornList = Items<Torn>;
 pub struct Choice {
     pub done: BoolList,
     pub torn: TornList,
+}
+
+// Takes away what stands at a place.
+fn drop_file(files: &mut Vec<Held>, place: &Place)
+    ensures { files.new.items ≡ without files.old.items place.now }
+{
+    files.retain(|held| !held.place.is(place))
+}
+
+// Moves a file, where it stands, to a place where then no other stands.
+fn move_file(files: &mut Vec<Held>, from: &Place, to: &Place) -> Result<(), AllocError>
+    ensures { OnOk result (files.new.items ≡ renamed from.now to.now files.old.items) }
+{
+    if let Some(held) = find_file(files, from) {
+        let mut held = held.copy()?;
+        held.place = to.copy()?;
+        drop_file(files, from);
+        put_file(files, held)?;
+    }
+    Ok(())
 }
 
 fn put_file(files: &mut Vec<Held>, held: Held) -> Result<(), AllocError>
