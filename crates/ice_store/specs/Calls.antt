@@ -12,6 +12,8 @@ use Rattle.ice_store.specs.declared.history.Past.{Past}
 use Rattle.ice_store.specs.declared.history.NameChange.{NameChange}
 use Rattle.ice_store.specs.declared.history.NameChange.TheVariants.{Created, Renamed, Removed}
 use Rattle.ice_store.specs.declared.history.Event.{Event}
+use Rattle.ice_store.specs.declared.history.Failure.{Failure}
+use Rattle.ice_store.specs.declared.history.StoreCall.{StoreCall}
 use Rattle.ice_store.specs.declared.history.Step.{Step}
 use Rattle.ice_store.specs.declared.history.Step.TheVariants.{Create, Append, Rename, Remove}
 use Rattle.ice_store.specs.declared.history.Who.TheVariants.{Us}
@@ -138,12 +140,17 @@ NamesAnswer dir (Err e) d ours = ours ≡ []
 abbrev pub Rose : ℕ → ℕ → Type 0
 Rose before now = min (before + 1) (2 ^ 64 - 1) ≤ now
 
--- the count of faults doesn't fall, and rises where a call answers Failed
+-- the count of faults rises where a call answers Failed, and else stays
 pub record HasCause {T : Type 0} (before now : ℕ) (result : Result T StoreErr) : Type 0 where
   pub later : before ≤ now
   pub failed : IsErrOf result Failed → Rose before now
+  pub kept : (IsErrOf result Failed → ⊥) → now ≡ before
 
--- a failed call marks how many events then stand, and another call leaves the mark
-pub record MarksFailure {T : Type 0} (before now : Option ℕ) (told : Option Past) (result : Result T StoreErr) : Type 0 where
-  pub failed : IsErrOf result Failed → WhereTold told (λ past. now ≡ Some (length past.events))
+-- the mark of this call, as the last of so many events
+abbrev pub failure_of : StoreCall → Past → Failure
+failure_of call past = record { events = length past.events; call = call }
+
+-- a failed call is marked with how many events then stand, and another call leaves the mark
+pub record MarksFailure {T : Type 0} (call : StoreCall) (before now : Option Failure) (told : Option Past) (result : Result T StoreErr) : Type 0 where
+  pub failed : IsErrOf result Failed → WhereTold told (λ past. now ≡ Some (failure_of call past))
   pub kept : (IsErrOf result Failed → ⊥) → now ≡ before

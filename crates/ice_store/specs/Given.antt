@@ -14,7 +14,8 @@ Takes None new bytes result = new ≡ None
 Takes (Some old) new bytes (Ok u) = new ≡ Some (old ++ bytes)
 Takes (Some old) new bytes (Err e) = (n : ℕ) × (new ≡ Some (old ++ take n bytes))
 
--- the count of faults doesn't fall, and rises where a put fails
+-- the count of faults rises where a put fails, and else stays
 pub record SinkCause (before now : ℕ) (result : Result (Unit {0}) Failed) : Type 0 where
   pub later : before ≤ now
   pub failed : IsErr result → Rose before now
+  pub kept : (IsErr result → ⊥) → now ≡ before

@@ -39,6 +39,20 @@ pub struct Event {
     pub ms: u64,
 }
 
+/// A call of a store: it looks at a place, or takes a step.
+#[derive(Debug, Drop, Clone)]
+pub enum StoreCall {
+    Look(Place),
+    Take(Step),
+}
+
+/// A call that failed, and how many events there were then.
+#[derive(Debug, Drop, Clone)]
+pub struct Failure {
+    pub events: usize,
+    pub call: StoreCall,
+}
+
 /// A list of durable files.
 pub type FileList = Items<FileRec>;
 

@@ -22,7 +22,8 @@ mod text;
 
 pub use faults::{ReadErr, What, Where};
 pub use history::{
-    Event, EventList, FileList, FileRec, Held, NameChange, Past, Step, StepList, Who,
+    Event, EventList, Failure, FileList, FileRec, Held, NameChange, Past, Step, StepList,
+    StoreCall, Who,
 };
 pub use items::Items;
 pub use numbers::{LARGEST_LONG, natural_of};

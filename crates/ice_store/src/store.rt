@@ -7,8 +7,10 @@ ghost use Rattle.std.proofs.Common.{rules};
 ghost use Rattle.std.specs.Cmp.{partial_order_from_own_ties};
 ghost use Rattle.std.specs.Cmp.Rules.{comparing};
 ghost use Rattle.ice_store.specs.Places.{joined};
+ghost use Rattle.ice_store.specs.declared.history.Failure.{Failure};
 ghost use Rattle.ice_store.specs.declared.history.Past.{Past as Told};
 ghost use Rattle.ice_store.specs.declared.history.Step.{Step as Kind};
+ghost use Rattle.ice_store.specs.declared.history.StoreCall.{StoreCall as Asked};
 ghost use Rattle.ice_store.specs.declared.store.StoreErr.TheVariants.{Memory};
 ghost use Rattle.ice_store.specs.Others.{Answers, Stands};
 ghost use Rattle.ice_store.specs.Calls.{IsUnmoved, IsOpen, CanRename, IsSettled, CreateAnswer, AppendAnswer, PlainAnswer, RenameAnswer, RemoveAnswer, SizeAnswer, NamesAnswer, ReadAnswer, HasCause, MarksFailure};
@@ -132,22 +134,22 @@ pub trait Store<M: Manners> {
     /// How often the store has failed, up to the greatest 64-bit number.
     ghost faults: { Self → ℕ };
 
-    /// How many events stood when a call last answered `Failed`; none where no call did.
-    ghost halted: { Self → Option ℕ };
+    /// The call that last answered `Failed`, and how many events then stood; none where no call did.
+    ghost halted: { Self → Option Failure };
 
     /// All files under `dir`, at any depth, in place order. A directory that lacks holds none.
     fn names(&mut self, dir: &Place) -> Result<ListedList, StoreErr>
         ensures told { Answers (M.allows (manners self.old)) (past self.old) (past self.new) (NamesAnswer dir.now result) }
         ensures manners { manners self.new ≡ manners self.old }
         ensures cause { HasCause (faults self.old) (faults self.new) result }
-        ensures halted { MarksFailure (halted self.old) (halted self.new) (past self.new) result };
+        ensures halted { MarksFailure (Asked.Look dir.now) (halted self.old) (halted self.new) (past self.new) result };
 
     /// The length of a file in bytes; none exactly where the place isn't named.
     fn size(&mut self, place: &Place) -> Result<Option<u64>, StoreErr>
         ensures told { Answers (M.allows (manners self.old)) (past self.old) (past self.new) (SizeAnswer place.now result) }
         ensures manners { manners self.new ≡ manners self.old }
         ensures cause { HasCause (faults self.old) (faults self.new) result }
-        ensures halted { MarksFailure (halted self.old) (halted self.new) (past self.new) result };
+        ensures halted { MarksFailure (Asked.Look place.now) (halted self.old) (halted self.new) (past self.new) result };
 
     /// The bytes of a file from the offset `from` on: `len` of them, or all that there are where these are fewer. None exactly
     /// where the place isn't named.
@@ -155,7 +157,7 @@ pub trait Store<M: Manners> {
         ensures told { Answers (M.allows (manners self.old)) (past self.old) (past self.new) (ReadAnswer place.now from len result) }
         ensures manners { manners self.new ≡ manners self.old }
         ensures cause { HasCause (faults self.old) (faults self.new) result }
-        ensures halted { MarksFailure (halted self.old) (halted self.new) (past self.new) result };
+        ensures halted { MarksFailure (Asked.Look place.now) (halted self.old) (halted self.new) (past self.new) result };
 
     /// Creates an empty unsealed file, or answers `Exists` exactly where the place is named.
     fn create(&mut self, place: &Place) -> Result<Made, StoreErr>
@@ -163,7 +165,7 @@ pub trait Store<M: Manners> {
         ensures told { Answers (M.allows (manners self.old)) (past self.old) (past self.new) (CreateAnswer place.now result) }
         ensures manners { manners self.new ≡ manners self.old }
         ensures cause { HasCause (faults self.old) (faults self.new) result }
-        ensures halted { MarksFailure (halted self.old) (halted self.new) (past self.new) result };
+        ensures halted { MarksFailure (Asked.Take (Kind.Create place.now)) (halted self.old) (halted self.new) (past self.new) result };
 
     /// Adds bytes to an unsealed file of ours.
     fn append(&mut self, place: &Place, bytes: &[u8]) -> Result<(), StoreErr>
@@ -171,7 +173,7 @@ pub trait Store<M: Manners> {
         ensures told { Answers (M.allows (manners self.old)) (past self.old) (past self.new) (AppendAnswer place.now bytes.now result) }
         ensures manners { manners self.new ≡ manners self.old }
         ensures cause { HasCause (faults self.old) (faults self.new) result }
-        ensures halted { MarksFailure (halted self.old) (halted self.new) (past self.new) result };
+        ensures halted { MarksFailure (Asked.Take (Kind.Append place.now bytes.now)) (halted self.old) (halted self.new) (past self.new) result };
 
     /// Seals a file of ours: a crash keeps its bytes from then on.
     fn seal(&mut self, place: &Place) -> Result<(), StoreErr>
@@ -179,7 +181,7 @@ pub trait Store<M: Manners> {
         ensures told { Answers (M.allows (manners self.old)) (past self.old) (past self.new) (PlainAnswer (Kind.Seal place.now) result) }
         ensures manners { manners self.new ≡ manners self.old }
         ensures cause { HasCause (faults self.old) (faults self.new) result }
-        ensures halted { MarksFailure (halted self.old) (halted self.new) (past self.new) result };
+        ensures halted { MarksFailure (Asked.Take (Kind.Seal place.now)) (halted self.old) (halted self.new) (past self.new) result };
 
     /// Renames a sealed file, or answers `Exists` exactly where `to` is named.
     fn rename_new(&mut self, from: &Place, to: &Place) -> Result<Moved, StoreErr>
@@ -187,7 +189,7 @@ pub trait Store<M: Manners> {
         ensures told { Answers (M.allows (manners self.old)) (past self.old) (past self.new) (RenameAnswer from.now to.now result) }
         ensures manners { manners self.new ≡ manners self.old }
         ensures cause { HasCause (faults self.old) (faults self.new) result }
-        ensures halted { MarksFailure (halted self.old) (halted self.new) (past self.new) result };
+        ensures halted { MarksFailure (Asked.Take (Kind.Rename from.now to.now)) (halted self.old) (halted self.new) (past self.new) result };
 
     /// Removes a file, or answers `Absent` exactly where the place isn't named.
     fn remove(&mut self, place: &Place) -> Result<Gone, StoreErr>
@@ -195,12 +197,12 @@ pub trait Store<M: Manners> {
         ensures told { Answers (M.allows (manners self.old)) (past self.old) (past self.new) (RemoveAnswer place.now result) }
         ensures manners { manners self.new ≡ manners self.old }
         ensures cause { HasCause (faults self.old) (faults self.new) result }
-        ensures halted { MarksFailure (halted self.old) (halted self.new) (past self.new) result };
+        ensures halted { MarksFailure (Asked.Take (Kind.Remove place.now)) (halted self.old) (halted self.new) (past self.new) result };
 
     /// Makes all name changes durable.
     fn sync_names(&mut self) -> Result<(), StoreErr>
         ensures told { Answers (M.allows (manners self.old)) (past self.old) (past self.new) (PlainAnswer Kind.SyncNames result) }
         ensures manners { manners self.new ≡ manners self.old }
         ensures cause { HasCause (faults self.old) (faults self.new) result }
-        ensures halted { MarksFailure (halted self.old) (halted self.new) (past self.new) result };
+        ensures halted { MarksFailure (Asked.Take Kind.SyncNames) (halted self.old) (halted self.new) (past self.new) result };
 }
