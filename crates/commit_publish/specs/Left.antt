@@ -1,14 +1,15 @@
 -- Which places steps of ours leave, and what a log says of them.
-use Rattle.std.specs.Prelude.{◌≡◌, ◌⊎◌, ℕ, zero, suc, Bool, true, false, not, List, [], ◌∷◌, ◌++◌, filter, Result, Ok, Err}
+use Rattle.std.specs.Prelude.{◌≡◌, ◌⊎◌, ℕ, zero, suc, not, List, [], ◌∷◌, ◌++◌, filter, Option, Some}
 use Rattle.ice_store.specs.Places.{Parts, same_place}
 use Rattle.ice_store.specs.History.{later}
 use Rattle.ice_store.specs.declared.history.Event.{Event}
+use Rattle.ice_store.specs.declared.history.Failure.{Failure}
+use Rattle.ice_store.specs.declared.history.StoreCall.{StoreCall}
+use Rattle.ice_store.specs.declared.history.StoreCall.TheVariants.{Look, Take}
 use Rattle.ice_store.specs.declared.history.Past.{Past}
 use Rattle.ice_store.specs.declared.history.Step.{Step}
 use Rattle.ice_store.specs.declared.history.Step.TheVariants.{Create, Append, Seal, Rename, Remove, SyncNames}
 use Rattle.commit_history.specs.Runs.{ours}
-use Rattle.commit_publish.specs.declared.publish.PublishErr.{PublishErr}
-use Rattle.commit_publish.specs.declared.steps.Route.{Route}
 
 -- these places without one
 abbrev pub without_place : List Parts → Parts → List Parts
@@ -56,58 +57,23 @@ IsOfStep (Rename from to) more = more ≡ to ∷ []
 IsOfStep (Remove place) more = more ≡ place ∷ []
 IsOfStep SyncNames more = ⊥
 
--- no further place; or, where the count of faults rose, one that a step of this kind would name, taken or not
-abbrev pub IsMore : Type 0 → (Step → Type 0) → List Parts → Type 0
-IsMore Risen Tried more = (more ≡ []) ⊎ (Risen × ((failed : Step) × Tried failed × IsOfStep failed more))
+-- so for a call
+abbrev pub IsOfCall : StoreCall → List Parts → Type 0
+IsOfCall (Look place) more = ⊥
+IsOfCall (Take step) more = IsOfStep step more
+
+-- no further place; or, where the count of faults rose, the one that the failed call names, which is marked
+abbrev pub IsMore : Type 0 → Option Failure → List Parts → Type 0
+IsMore Risen mark more = (more ≡ []) ⊎ (Risen × ((failed : Failure) × (mark ≡ Some failed) × IsOfCall failed.call more))
 
 -- the places that were left: those that the steps made and that still stand under their own names, and a further one only by a failure
-pub record IsLeft (Risen : Type 0) (Tried : Step → Type 0) (count : ℕ) (before : List Parts) (steps : List Step) (left : List Parts) : Type 0 where
+pub record IsLeft (Risen : Type 0) (mark : Option Failure) (count : ℕ) (before : List Parts) (steps : List Step) (left : List Parts) : Type 0 where
   pub more : List Parts
   pub is : left ≡ made_by count before steps ++ more
-  pub cause : IsMore Risen Tried more
+  pub cause : IsMore Risen mark more
 
 -- the steps of Us between two moments left these places
-pub record Leaves (Risen : Type 0) (Tried : Step → Type 0) (count : ℕ) (before left : List Parts) (old new : Past) : Type 0 where
+pub record Leaves (Risen : Type 0) (mark : Option Failure) (count : ℕ) (before left : List Parts) (old new : Past) : Type 0 where
   pub events : List Event
   pub is : new ≡ later old events
-  pub places : IsLeft Risen Tried count before (ours events) left
-
--- and the log has them behind those that it had
-pub record Notes (Risen : Type 0) (Tried : Step → Type 0) (count : ℕ) (before : List Parts) (had has : List Parts) (old new : Past) : Type 0 where
-  pub left : List Parts
-  pub noted : has ≡ had ++ left
-  pub leaves : Leaves Risen Tried count before left old new
-
--- this step was among those of Us between two moments
-pub record Takes (step : Step) (old new : Past) : Type 0 where
-  pub events : List Event
-  pub is : new ≡ later old events
-  pub before : List Step
-  pub after : List Step
-  pub among : ours events ≡ before ++ step ∷ after
-
--- a rename whose end is unknown took place, and the draft stands in the log; or both of its names stand there
-abbrev pub TellsRename : Parts → Parts → List Parts → List Parts → Past → Past → Type 0
-TellsRename draft target had has old new = ((has ≡ had ++ draft ∷ []) × Takes (Rename draft target) old new) ⊎ (has ≡ had ++ draft ∷ target ∷ [])
-
--- the steps of a publish that name a file
-abbrev pub IsNaming : Parts → Parts → Step → Type 0
-IsNaming draft target step = (step ≡ Create draft) ⊎ ((step ≡ Rename draft target) ⊎ (step ≡ Remove draft))
-
--- a draft that may stand
-abbrev pub draft_if : Bool → Parts → List Parts
-draft_if true draft = draft ∷ []
-draft_if false draft = []
-
--- how many versions a publish commits
-abbrev pub committed_count : Result (Unit {0}) PublishErr → ℕ
-committed_count (Ok u) = 1
-committed_count (Err e) = 0
-
--- a draft that wasn't written is left, where it may stand
-abbrev pub LeavesDraft : Type 0 → Route → Bool → Past → Past → Type 0
-LeavesDraft Risen route is_made = Leaves Risen (IsNaming route.draft route.target) 0 [] (draft_if is_made route.draft)
-
--- a publish's log has the places that it left, of these before and of those that its steps name
-abbrev pub PublishNotes : Type 0 → Route → Result (Unit {0}) PublishErr → List Parts → List Parts → List Parts → Past → Past → Type 0
-PublishNotes Risen route result before = Notes Risen (IsNaming route.draft route.target) (committed_count result) before
+  pub places : IsLeft Risen mark count before (ours events) left

@@ -1,75 +1,76 @@
--- What a publish tells besides: the causes of its faults, and what the log says of it.
-use Rattle.std.specs.Prelude.{◌≡◌, ◌⊎◌, ℕ, Bool, true, false, List, [], ◌∷◌, ◌++◌, Result, Ok, Err}
+-- What a publish tells besides: the count of faults, the mark of a failed call, and what the log says of it.
+use Rattle.std.specs.Prelude.{◌≡◌, ℕ, List, [], ◌∷◌, ◌++◌, Option, Some, Result, Ok, Err}
 use Rattle.ice_store.specs.Places.{Parts}
-use Rattle.ice_store.specs.Calls.{Rose}
+use Rattle.ice_store.specs.Others.{WhereTold}
+use Rattle.ice_store.specs.Calls.{Rose, failure_of}
+use Rattle.ice_store.specs.declared.history.Past.{Past}
+use Rattle.ice_store.specs.declared.history.Failure.{Failure}
+use Rattle.ice_store.specs.declared.history.StoreCall.{StoreCall}
+use Rattle.ice_store.specs.declared.history.StoreCall.TheVariants.{Take}
 use Rattle.ice_store.specs.declared.store.StoreErr.{StoreErr}
 use Rattle.ice_store.specs.declared.store.StoreErr.TheVariants.{Failed, Memory}
-use Rattle.commit_publish.specs.declared.steps.FailedCall.{FailedCall}
-use Rattle.commit_publish.specs.declared.steps.FailedCall.TheVariants.{OnFile, OnNames}
-use Rattle.commit_publish.specs.declared.publish.Unwritten.{Unwritten}
+use Rattle.commit_publish.specs.Steps.{step_of}
+use Rattle.commit_publish.specs.declared.steps.PublishCall.{PublishCall}
+use Rattle.commit_publish.specs.declared.steps.PublishCall.TheVariants as calls
+use Rattle.commit_publish.specs.declared.steps.StepErr.{StepErr}
 use Rattle.commit_publish.specs.declared.publish.PublishErr.{PublishErr}
-use Rattle.commit_publish.specs.declared.publish.PublishErr.TheVariants.{NameTaken, Contended, Unknown, Fault, NoMemory}
+use Rattle.commit_publish.specs.declared.publish.PublishErr.TheVariants.{NameTaken, Contended, Stopped}
 
--- the error of a publish where a call didn't do its work
-abbrev pub fault_from : StoreErr → FailedCall → PublishErr
-fault_from Failed call = Fault call
-fault_from Memory call = NoMemory
+-- the count of faults rises where a call failed, and stays where memory lacked
+abbrev pub CountsBy : StoreErr → ℕ → ℕ → Type 0
+CountsBy Failed before now = Rose before now
+CountsBy Memory before now = now ≡ before
 
--- and where that call was the rename, or the sync behind it
-abbrev pub unknown_from : StoreErr → PublishErr
-unknown_from Failed = Unknown
-unknown_from Memory = NoMemory
+-- so for a piece's answer; it stays where that is Ok
+abbrev pub CallCounts : {T : Type 0} → Result T StepErr → ℕ → ℕ → Type 0
+CallCounts (Ok x) before now = now ≡ before
+CallCounts (Err e) before now = CountsBy e.cause before now
 
--- a fault of the store comes only where the count rose
-abbrev pub PublishRose : Result (Unit {0}) PublishErr → ℕ → ℕ → Type 0
-PublishRose (Ok u) before now = Unit {0}
-PublishRose (Err NameTaken) before now = Unit {0}
-PublishRose (Err Contended) before now = Unit {0}
-PublishRose (Err Unknown) before now = Rose before now
-PublishRose (Err (Fault call)) before now = Rose before now
-PublishRose (Err NoMemory) before now = Unit {0}
+-- and for a publish
+abbrev pub PublishCounts : Result (Unit {0}) PublishErr → ℕ → ℕ → Type 0
+PublishCounts (Ok u) before now = now ≡ before
+PublishCounts (Err NameTaken) before now = now ≡ before
+PublishCounts (Err Contended) before now = now ≡ before
+PublishCounts (Err (Stopped e)) before now = CountsBy e.cause before now
 
--- a version is committed where the publish ended
-abbrev pub committed_by : ℕ → Result (Unit {0}) PublishErr → List ℕ → List ℕ
-committed_by version (Ok u) committed = committed ++ version ∷ []
-committed_by version (Err e) committed = committed
+-- a failed call is marked, behind which no event stands; where memory lacked the mark stays
+abbrev pub MarksBy : StoreErr → StoreCall → Option Failure → Option Failure → Option Past → Type 0
+MarksBy Failed call before now told = WhereTold told (λ past. now ≡ Some (failure_of call past))
+MarksBy Memory call before now told = now ≡ before
 
--- what was left: nothing where the publish ended, met a taken name, or lost its target and removed the draft; else the draft, and the target where its rename failed;
--- where the sync behind the draft's removal failed the draft is gone
-abbrev pub LeftBy : Parts → Parts → Result (Unit {0}) PublishErr → List Parts → List Parts → Type 0
-LeftBy draft target (Ok u) old new = new ≡ old
-LeftBy draft target (Err NameTaken) old new = new ≡ old
-LeftBy draft target (Err Contended) old new = new ≡ old
-LeftBy draft target (Err Unknown) old new = (new ≡ old ++ draft ∷ []) ⊎ (new ≡ old ++ draft ∷ target ∷ [])
-LeftBy draft target (Err (Fault OnFile)) old new = new ≡ old ++ draft ∷ []
-LeftBy draft target (Err (Fault OnNames)) old new = (new ≡ old) ⊎ (new ≡ old ++ draft ∷ [])
-LeftBy draft target (Err NoMemory) old new = (new ≡ old) ⊎ (new ≡ old ++ draft ∷ [])
+-- so for a piece of a publish of this draft, target and bytes
+abbrev pub CallMarks : {T : Type 0} → Parts → Parts → List ℕ → Result T StepErr → Option Failure → Option Failure → Option Past → Type 0
+CallMarks draft target bytes (Ok x) before now told = now ≡ before
+CallMarks draft target bytes (Err e) before now told = MarksBy e.cause (Take (step_of draft target bytes e.call)) before now told
 
--- a draft that wasn't written may stand, where its creation failed or took place
-abbrev pub IsMadeBy : PublishErr → Bool → Type 0
-IsMadeBy NameTaken is_made = is_made ≡ false
-IsMadeBy Contended is_made = ⊥
-IsMadeBy Unknown is_made = ⊥
-IsMadeBy (Fault call) is_made = is_made ≡ true
-IsMadeBy NoMemory is_made = Unit {0}
+-- and for all of it
+abbrev pub PublishMarks : Parts → Parts → List ℕ → Result (Unit {0}) PublishErr → Option Failure → Option Failure → Option Past → Type 0
+PublishMarks draft target bytes (Ok u) before now told = now ≡ before
+PublishMarks draft target bytes (Err NameTaken) before now told = now ≡ before
+PublishMarks draft target bytes (Err Contended) before now told = now ≡ before
+PublishMarks draft target bytes (Err (Stopped e)) before now told = MarksBy e.cause (Take (step_of draft target bytes e.call)) before now told
 
--- so for the writing of a draft
-abbrev pub WriteRose : Result (Unit {0}) Unwritten → ℕ → ℕ → Type 0
-WriteRose (Ok u) before now = Unit {0}
-WriteRose (Err e) before now = PublishRose (Err e.error) before now
+-- the versions that a publish of this one commits
+abbrev pub published_by : ℕ → Result (Unit {0}) PublishErr → List ℕ
+published_by version (Ok u) = version ∷ []
+published_by version (Err e) = []
 
--- a call failed, and didn't only lack memory
-abbrev pub is_failed : StoreErr → Bool
-is_failed Failed = true
-is_failed Memory = false
+-- the places that stay where a publish stopped at this call: the draft, once its creation was tried and as long as its removal isn't known; and the target of a rename that failed
+abbrev pub left_at : Parts → Parts → PublishCall → StoreErr → List Parts
+left_at draft target calls.Create Failed = draft ∷ []
+left_at draft target calls.Create Memory = []
+left_at draft target calls.Append cause = draft ∷ []
+left_at draft target calls.Seal cause = draft ∷ []
+left_at draft target calls.SyncDraft cause = draft ∷ []
+left_at draft target calls.Rename Failed = draft ∷ target ∷ []
+left_at draft target calls.Rename Memory = draft ∷ []
+left_at draft target calls.SyncRename cause = draft ∷ []
+left_at draft target calls.Remove cause = draft ∷ []
+left_at draft target calls.SyncRemoval cause = []
 
--- what the rename and the sync behind it leave where one of them did not do its work
-abbrev pub left_by_move : FailedCall → StoreErr → Parts → Parts → List Parts → List Parts
-left_by_move OnFile Failed draft target left = left ++ draft ∷ target ∷ []
-left_by_move OnFile Memory draft target left = left ++ draft ∷ []
-left_by_move OnNames cause draft target left = left ++ draft ∷ []
-
--- and the draft's removal and its sync
-abbrev pub left_by_drop : FailedCall → Parts → List Parts → List Parts
-left_by_drop OnFile draft left = left ++ draft ∷ []
-left_by_drop OnNames draft left = left
+-- the places that a publish leaves, by its answer
+abbrev pub left_by : Parts → Parts → Result (Unit {0}) PublishErr → List Parts
+left_by draft target (Ok u) = []
+left_by draft target (Err NameTaken) = []
+left_by draft target (Err Contended) = []
+left_by draft target (Err (Stopped e)) = left_at draft target e.call e.cause

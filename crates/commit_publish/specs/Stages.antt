@@ -7,8 +7,6 @@ use Rattle.ice_store.specs.Calls.{IsCreation}
 use Rattle.ice_store.specs.declared.history.NameChange.{NameChange}
 use Rattle.ice_store.specs.declared.history.Held.{Held}
 use Rattle.ice_store.specs.declared.history.Past.{Past}
-use Rattle.ice_store.specs.declared.history.Step.{Step}
-use Rattle.ice_store.specs.declared.history.Step.TheVariants.{Create, Append, Seal, Rename, Remove, SyncNames}
 use Rattle.ice_store.specs.declared.history.Who.TheVariants.{Us}
 use Rattle.commit_history.specs.Readings.{Content, Reading}
 use Rattle.commit_history.specs.Tables.{version, sealed_at}
@@ -67,10 +65,6 @@ pub record IsLost (target : Parts) (d : Disk) : Type 0 where
 abbrev pub InState : (Disk → Type 0) → Past → Type 0
 InState K past = K (replay past)
 
--- nothing is said of a history
-abbrev pub Anything : Past → Type 0
-Anything past = Unit {0}
-
 -- a premise of what is told of the commits: a steady history, whose base has these bytes
 pub record IsBased (reading : Reading) (route : Route) (past : Past) : Type 0 where
   pub steady : IsSteady reading past
@@ -101,53 +95,3 @@ Publishes reading route bytes old now = IsPublished reading.number route.text by
 -- the draft's name is taken
 abbrev pub IsNameTaken : Route → Past → Type 0
 IsNameTaken route past = is_named (replay past).files route.draft ≡ true
-
--- Which steps of ours there were.
-
--- exactly these
-abbrev pub Exactly : List Step → List Step → Type 0
-Exactly plan steps = steps ≡ plan
-
--- some of them, from the first on
-pub record Begun (plan steps : List Step) : Type 0 where
-  pub rest : List Step
-  pub is : plan ≡ steps ++ rest
-
--- the steps that create a draft and fill it
-abbrev pub draft_plan : Parts → List ℕ → List Step
-draft_plan draft bytes = Create draft ∷ Append draft bytes ∷ Seal draft ∷ SyncNames ∷ []
-
--- the steps that fill it once it is created
-abbrev pub fill_plan : Parts → List ℕ → List Step
-fill_plan draft bytes = Append draft bytes ∷ Seal draft ∷ SyncNames ∷ []
-
--- the steps that make it a version
-abbrev pub move_plan : Route → List Step
-move_plan route = Rename route.draft route.target ∷ SyncNames ∷ []
-
--- the steps that remove it
-abbrev pub drop_plan : Route → List Step
-drop_plan route = Remove route.draft ∷ SyncNames ∷ []
-
--- a draft's filling that was begun, maybe with a part of its bytes
-pub record BegunFill (draft : Parts) (bytes : List ℕ) (steps : List Step) : Type 0 where
-  pub count : ℕ
-  pub begun : Begun (Append draft (take count bytes) ∷ []) steps ⊎ Begun (fill_plan draft bytes) steps
-
--- all of the first steps, and then others
-pub record Then (first : List Step) (P : List Step → Type 0) (steps : List Step) : Type 0 where
-  pub rest : List Step
-  pub is : steps ≡ first ++ rest
-  pub then : P rest
-
--- steps of a publish that doesn't come to its rename, or whose rename met a taken target
-abbrev pub Partly : Route → List ℕ → List Step → Type 0
-Partly route bytes steps = Begun (Create route.draft ∷ []) steps ⊎ (Then (Create route.draft ∷ []) (BegunFill route.draft bytes) steps ⊎ Then (draft_plan route.draft bytes) (Begun (drop_plan route)) steps)
-
--- steps of a publish that comes to its rename, or to the sync behind it
-abbrev pub Reaching : Route → List ℕ → List Step → Type 0
-Reaching route bytes steps = Then (draft_plan route.draft bytes) (Begun (move_plan route)) steps
-
--- either
-abbrev pub PartlyOrReaching : Route → List ℕ → List Step → Type 0
-PartlyOrReaching route bytes steps = Partly route bytes steps ⊎ Reaching route bytes steps

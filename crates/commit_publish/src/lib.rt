@@ -10,4 +10,4 @@ mod publish;
 mod steps;
 
 pub use publish::{Log, PublishErr, publish as publish_version};
-pub use steps::{FailedCall, Route, StepErr, drop_draft, fill_draft, make_draft, move_draft};
+pub use steps::{PublishCall, Route, StepErr, drop_draft, fill_draft, make_draft, move_draft};

@@ -1,17 +1,17 @@
 //! A publish: the new metadata becomes the next version of its table.
-ghost use Rattle.std.specs.Prelude.{◌≡◌, ◌≤◌, ◌<◌, ◌+◌, ◌++◌, ◌∷◌, [], true, Err, IfErr, OnOk, OnErr, vec_len, vec_capacity};
+ghost use Rattle.std.specs.Prelude.{◌≡◌, ◌≤◌, ◌+◌, ◌++◌, [], length, vec_len, vec_capacity};
+ghost use Rattle.ice_store.specs.Calls.{Rose};
 ghost use Rattle.ice_store.specs.Others.{WhereTold};
 ghost use Rattle.ice_store.specs.Since.{Since};
 ghost use Rattle.commit_history.specs.Readings.{rules_of};
 ghost use Rattle.commit_history.specs.Mannered.{IsMannered};
 ghost use Rattle.commit_history.specs.Versions.{number_in};
-ghost use Rattle.commit_publish.specs.Stages.{IsNarrow, Creating, AtRest, Aim, Stage, NoFile, HasDraft, InState};
-ghost use Rattle.commit_publish.specs.Leaves.{PublishLeaves, FinishLeaves, WriteLeaves, Halts};
-ghost use Rattle.ice_store.specs.Calls.{Rose};
-ghost use Rattle.commit_publish.specs.Left.{LeavesDraft, PublishNotes, TellsRename};
-ghost use Rattle.commit_publish.specs.Logs.{PublishRose, WriteRose, IsMadeBy, LeftBy, committed_by, left_by_move, left_by_drop, is_failed, fault_from, unknown_from};
+ghost use Rattle.commit_publish.specs.Leaves.{PublishLeaves};
+ghost use Rattle.commit_publish.specs.Left.{Leaves};
+ghost use Rattle.commit_publish.specs.Logs.{PublishCounts, PublishMarks, published_by, left_at, left_by};
+ghost use Rattle.commit_publish.specs.Stages.{IsNarrow, Creating, Aim, Stage, NoFile, InState};
 
-use crate::steps::{FailedCall, Route, StepErr, drop_draft, fill_draft, make_draft, move_draft};
+use crate::steps::{PublishCall, Route, StepErr, drop_draft, fill_draft, make_draft, move_draft};
 use commit_history::TableReading;
 use ice_store::{Made, Manners, Moved, Place, Store, StoreErr};
 
@@ -31,78 +31,72 @@ pub enum PublishErr {
     NameTaken,
     /// The target was taken, and the draft is removed.
     Contended,
-    /// The rename, or the sync behind it, failed.
-    Unknown,
-    /// Another call failed.
-    Fault(FailedCall),
-    NoMemory,
+    /// A store call failed, or lacked memory; no call follows it.
+    Stopped(StepErr),
 }
 
-fn fault_of(e: StepErr) -> PublishErr
-    ensures { result ≡ fault_from e.cause e.call }
-{
-    match e.cause {
-        StoreErr::Failed => PublishErr::Fault(e.call),
-        StoreErr::Memory => PublishErr::NoMemory,
-    }
-}
-
-fn unknown_of(e: StepErr) -> PublishErr
-    ensures { result ≡ unknown_from e.cause }
-{
-    match e.cause {
-        StoreErr::Failed => PublishErr::Unknown,
-        StoreErr::Memory => PublishErr::NoMemory,
-    }
-}
-
-/// Why a draft wasn't written, and whether it may stand.
-#[derive(Debug, Clone, Copy)]
-pub(crate) struct Unwritten {
-    error: PublishErr,
-    is_made: bool,
-}
-
-fn stopped_at(error: PublishErr, is_made: bool) -> Unwritten
-    ensures { result ≡ record { error = error; is_made = is_made } }
-{
-    Unwritten { error, is_made }
-}
-
-fn is_failure(cause: StoreErr) -> bool
-    ensures { result ≡ is_failed cause }
-{
-    match cause {
-        StoreErr::Failed => true,
-        StoreErr::Memory => false,
-    }
-}
-
-// creates, writes and seals the draft, and makes its name durable
-fn write_draft<R: TableReading, M: Manners, S: Store<M>>(
+// the calls of a publish, one behind the other
+fn publish_steps<R: TableReading, M: Manners, S: Store<M>>(
     store: &mut S,
     route: &Route,
     bytes: &[u8],
-) -> Result<(), Unwritten>
+) -> Result<(), PublishErr>
     requires mannered { IsMannered (rules_of R.content route.now.table (M.allows (S.manners store.old))) }
     requires aim { Aim (number_in route.now.table) route.now }
     requires start { WhereTold (S.past store.old) (InState (Stage (number_in route.now.table) route.now Creating NoFile)) }
-    ensures told { Since (S.past store.old) (S.past store.new) (WriteLeaves (rules_of R.content route.now.table (M.allows (S.manners store.old))) route.now bytes.now result) }
+    requires narrow { IsNarrow (R.content route.now.table) bytes.now }
+    ensures told { Since (S.past store.old) (S.past store.new) (PublishLeaves (rules_of R.content route.now.table (M.allows (S.manners store.old))) route.now bytes.now result) }
     ensures manners { S.manners store.new ≡ S.manners store.old }
-    ensures cause { WriteRose result (S.faults store.old) (S.faults store.new) }
+    ensures cause { PublishCounts result (S.faults store.old) (S.faults store.new) }
     ensures later { S.faults store.old ≤ S.faults store.new }
-    ensures halted { Halts result (S.halted store.old) (S.halted store.new) (S.past store.new) }
-    ensures made { IfErr result (λ u. IsMadeBy u.error u.is_made) }
-    ensures left { IfErr result (λ u. Since (S.past store.old) (S.past store.new) (LeavesDraft (Rose (S.faults store.old) (S.faults store.new)) route.now u.is_made)) }
+    ensures halted { PublishMarks route.now.draft route.now.target bytes.now result (S.halted store.old) (S.halted store.new) (S.past store.new) }
 {
     match make_draft::<R, M, S>(store, route) {
         Ok(Made::New) => {}
-        Ok(Made::Exists) => return Err(stopped_at(PublishErr::NameTaken, false)),
-        Err(e) => return Err(stopped_at(fault_of(e), is_failure(e.cause))),
+        Ok(Made::Exists) => return Err(PublishErr::NameTaken),
+        Err(e) => return Err(PublishErr::Stopped(e)),
     }
-    match fill_draft::<R, M, S>(store, route, bytes) {
-        Ok(()) => Ok(()),
-        Err(e) => Err(stopped_at(fault_of(e), true)),
+    if let Err(e) = fill_draft::<R, M, S>(store, route, bytes) {
+        return Err(PublishErr::Stopped(e));
+    }
+    match move_draft::<R, M, S>(store, route, bytes) {
+        Ok(Moved::Done) => return Ok(()),
+        Ok(Moved::Exists) => {}
+        Err(e) => return Err(PublishErr::Stopped(e)),
+    }
+    match drop_draft::<R, M, S>(store, route, bytes) {
+        Ok(()) => Err(PublishErr::Contended),
+        Err(e) => Err(PublishErr::Stopped(e)),
+    }
+}
+
+// the log has what was committed, and what is left
+fn note(log: &mut Log, result: &Result<(), PublishErr>, version: u64, draft: Place, target: Place)
+    requires committed_room { vec_len log.old.committed + 1 ≤ vec_capacity log.old.committed }
+    requires left_room { vec_len log.old.left + 2 ≤ vec_capacity log.old.left }
+    ensures committed { log.new.committed.items ≡ log.old.committed.items ++ published_by version result.now }
+    ensures left { log.new.left.items ≡ log.old.left.items ++ left_by draft target result.now }
+{
+    match result {
+        Ok(()) => log.committed.push_reserved(version),
+        Err(PublishErr::Stopped(e)) => note_left(log, *e, draft, target),
+        Err(_) => {}
+    }
+}
+
+// the places that stay where a publish stopped at this call
+fn note_left(log: &mut Log, e: StepErr, draft: Place, target: Place)
+    requires { vec_len log.old.left + 2 ≤ vec_capacity log.old.left }
+    ensures left { log.new.left.items ≡ log.old.left.items ++ left_at draft target e.call e.cause }
+    ensures committed { log.new.committed ≡ log.old.committed }
+{
+    match (e.call, e.cause) {
+        (PublishCall::Create, StoreErr::Memory) | (PublishCall::SyncRemoval, _) => {}
+        (PublishCall::Rename, StoreErr::Failed) => {
+            log.left.push_reserved(draft);
+            log.left.push_reserved(target);
+        }
+        _ => log.left.push_reserved(draft),
     }
 }
 
@@ -116,103 +110,29 @@ pub fn publish<R: TableReading, M: Manners, S: Store<M>>(
 ) -> Result<(), PublishErr>
     requires mannered { IsMannered (rules_of R.content route.now.table (M.allows (S.manners store.old))) }
     requires aim { Aim (number_in route.now.table) route.now }
+    requires number { number_in route.now.table route.now.target ≡ version }
     requires start { WhereTold (S.past store.old) (InState (Stage (number_in route.now.table) route.now Creating NoFile)) }
     requires narrow { IsNarrow (R.content route.now.table) bytes.now }
     ensures told { Since (S.past store.old) (S.past store.new) (PublishLeaves (rules_of R.content route.now.table (M.allows (S.manners store.old))) route.now bytes.now result) }
     ensures manners { S.manners store.new ≡ S.manners store.old }
-    ensures cause { PublishRose result (S.faults store.old) (S.faults store.new) }
+    ensures cause { PublishCounts result (S.faults store.old) (S.faults store.new) }
     ensures later { S.faults store.old ≤ S.faults store.new }
-    ensures halted { Halts result (S.halted store.old) (S.halted store.new) (S.past store.new) }
-    ensures committed { log.new.committed.items ≡ committed_by version result log.old.committed.items }
-    ensures left { LeftBy route.now.draft route.now.target result log.old.left.items log.new.left.items }
-    ensures noted { Since (S.past store.old) (S.past store.new) (PublishNotes (Rose (S.faults store.old) (S.faults store.new)) route.now result [] log.old.left.items log.new.left.items) }
-    ensures renamed { result ≡ Err PublishErr.Unknown → Since (S.past store.old) (S.past store.new) (TellsRename route.now.draft route.now.target log.old.left.items log.new.left.items) }
+    ensures halted { PublishMarks route.now.draft route.now.target bytes.now result (S.halted store.old) (S.halted store.new) (S.past store.new) }
+    ensures committed { log.new.committed.items ≡ log.old.committed.items ++ published_by version result }
+    ensures left { log.new.left.items ≡ log.old.left.items ++ left_by route.now.draft route.now.target result }
+    ensures noted { Since (S.past store.old) (S.past store.new) (Leaves (Rose (S.faults store.old) (S.faults store.new)) (S.halted store.new) (length (published_by version result)) [] (left_by route.now.draft route.now.target result)) }
 {
+    let lacks = StepErr {
+        call: PublishCall::Create,
+        cause: StoreErr::Memory,
+    };
     let (Ok(draft), Ok(target)) = (route.draft.copy(), route.target.copy()) else {
-        return Err(PublishErr::NoMemory);
+        return Err(PublishErr::Stopped(lacks));
     };
     if log.committed.reserve(1).is_err() || log.left.reserve(2).is_err() {
-        return Err(PublishErr::NoMemory);
+        return Err(PublishErr::Stopped(lacks));
     }
-    match write_draft::<R, M, S>(store, route, bytes) {
-        Ok(()) => finish::<R, M, S>(store, route, version, bytes, draft, target, log),
-        Err(e) => {
-            if e.is_made {
-                log.left.push_reserved(draft);
-            }
-            Err(e.error)
-        }
-    }
-}
-
-// a failed rename leaves either name
-fn note_move(log: &mut Log, e: StepErr, draft: Place, target: Place)
-    requires { vec_len log.old.left + 2 ≤ vec_capacity log.old.left }
-    ensures left { log.new.left.items ≡ left_by_move e.call e.cause draft target log.old.left.items }
-    ensures committed { log.new.committed ≡ log.old.committed }
-{
-    log.left.push_reserved(draft);
-    match (e.call, e.cause) {
-        (FailedCall::OnFile, StoreErr::Failed) => log.left.push_reserved(target),
-        _ => {}
-    }
-}
-
-// where only the sync behind the removal failed, the draft is gone
-fn note_drop(log: &mut Log, e: StepErr, draft: Place)
-    requires { vec_len log.old.left + 1 ≤ vec_capacity log.old.left }
-    ensures left { log.new.left.items ≡ left_by_drop e.call draft log.old.left.items }
-    ensures committed { log.new.committed ≡ log.old.committed }
-{
-    match e.call {
-        FailedCall::OnFile => log.left.push_reserved(draft),
-        FailedCall::OnNames => {}
-    }
-}
-
-// renames the written draft to the target, or removes it where the target is taken
-fn finish<R: TableReading, M: Manners, S: Store<M>>(
-    store: &mut S,
-    route: &Route,
-    version: u64,
-    bytes: &[u8],
-    draft: Place,
-    target: Place,
-    log: &mut Log,
-) -> Result<(), PublishErr>
-    requires mannered { IsMannered (rules_of R.content route.now.table (M.allows (S.manners store.old))) }
-    requires aim { Aim (number_in route.now.table) route.now }
-    requires start { WhereTold (S.past store.old) (InState (Stage (number_in route.now.table) route.now AtRest (HasDraft route.now.draft true bytes.now))) }
-    requires narrow { IsNarrow (R.content route.now.table) bytes.now }
-    requires names { (draft ≡ route.now.draft) × (target ≡ route.now.target) }
-    requires committed_room { vec_len log.old.committed + 1 ≤ vec_capacity log.old.committed }
-    requires left_room { vec_len log.old.left + 2 ≤ vec_capacity log.old.left }
-    ensures told { Since (S.past store.old) (S.past store.new) (FinishLeaves (rules_of R.content route.now.table (M.allows (S.manners store.old))) route.now bytes.now result) }
-    ensures manners { S.manners store.new ≡ S.manners store.old }
-    ensures cause { PublishRose result (S.faults store.old) (S.faults store.new) }
-    ensures later { S.faults store.old ≤ S.faults store.new }
-    ensures halted { Halts result (S.halted store.old) (S.halted store.new) (S.past store.new) }
-    ensures committed { log.new.committed.items ≡ committed_by version result log.old.committed.items }
-    ensures left { LeftBy route.now.draft route.now.target result log.old.left.items log.new.left.items }
-    ensures noted { Since (S.past store.old) (S.past store.new) (PublishNotes (Rose (S.faults store.old) (S.faults store.new)) route.now result (route.now.draft ∷ []) log.old.left.items log.new.left.items) }
-    ensures renamed { result ≡ Err PublishErr.Unknown → Since (S.past store.old) (S.past store.new) (TellsRename route.now.draft route.now.target log.old.left.items log.new.left.items) }
-{
-    match move_draft::<R, M, S>(store, route, bytes) {
-        Ok(Moved::Done) => {
-            log.committed.push_reserved(version);
-            return Ok(());
-        }
-        Ok(Moved::Exists) => {}
-        Err(e) => {
-            note_move(log, e, draft, target);
-            return Err(unknown_of(e));
-        }
-    }
-    match drop_draft::<R, M, S>(store, route, bytes) {
-        Ok(()) => Err(PublishErr::Contended),
-        Err(e) => {
-            note_drop(log, e, draft);
-            Err(fault_of(e))
-        }
-    }
+    let result = publish_steps::<R, M, S>(store, route, bytes);
+    note(log, &result, version, draft, target);
+    result
 }

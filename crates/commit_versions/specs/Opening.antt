@@ -5,10 +5,12 @@ use Rattle.std.specs.Ordering.{nat_cmp, is_lt}
 use Rattle.ice_store.specs.Places.{Parts, joined}
 use Rattle.ice_store.specs.Files.{find, is_named}
 use Rattle.ice_store.specs.History.{Disk, replay}
-use Rattle.ice_store.specs.Calls.{Rose}
+use Rattle.ice_store.specs.declared.history.Failure.{Failure}
 use Rattle.ice_store.specs.declared.history.Held.{Held}
 use Rattle.ice_store.specs.declared.history.Past.{Past}
+use Rattle.ice_store.specs.declared.history.StoreCall.TheVariants.{Look}
 use Rattle.ice_store.specs.declared.store.StoreErr.{StoreErr}
+use Rattle.ice_store.specs.declared.store.StoreErr.TheVariants.{Failed}
 use Rattle.ice_store.specs.declared.faults.What.TheVariants.{Codec, FormatVersion, Transform, SchemaSize, BlockBytes, ItemCount, FileBytes, GroupBytes, NoManifestList, VersionNumber, Sequence}
 use Rattle.ice_store.specs.declared.faults.ReadErr.{ReadErr}
 use Rattle.ice_store.specs.declared.faults.ReadErr.TheVariants.{Missing, Damaged, Unsupported, StoreFault, Memory}
@@ -18,7 +20,11 @@ use Rattle.commit_history.specs.Versions.{number_in, folder}
 use Rattle.commit_history.specs.Commits.{standing}
 use Rattle.commit_history.specs.Steady.{Steady}
 use Rattle.commit_history.specs.Runs.{Ran}
-use Rattle.commit_publish.specs.Stages.{Creating, Exactly, Anything, InState}
+use Rattle.commit_publish.specs.Kinds as kinds
+use Rattle.commit_publish.specs.Kinds.{Kind, read_kind}
+use Rattle.commit_publish.specs.Logs.{MarksBy}
+use Rattle.commit_publish.specs.Stages.{Creating, InState}
+use Rattle.commit_publish.specs.Steps.{Exactly, Anything}
 use Rattle.commit_versions.specs.declared.types.Opened.{Opened}
 use Rattle.commit_versions.specs.declared.types.Found.{Found}
 use Rattle.commit_versions.specs.declared.types.Found.TheVariants.{NoVersion, Base, Beyond}
@@ -203,17 +209,27 @@ OpenFaultAt table (NoTable place) = Unit {0}
 OpenFaultAt table (LocationDiffers place location) = Unit {0}
 OpenFaultAt table (Read e) = FaultAt table e
 
--- a fault of the store comes only where the count of faults rose
-abbrev pub FaultRose : ReadErr → ℕ → ℕ → Type 0
-FaultRose (Missing place) before now = Unit {0}
-FaultRose (Damaged place at) before now = Unit {0}
-FaultRose (Unsupported place what) before now = Unit {0}
-FaultRose (StoreFault place) before now = Rose before now
-FaultRose Memory before now = Unit {0}
+-- the kind of an opening's error
+abbrev pub open_kind : OpenErr → Kind
+open_kind (NoTable place) = kinds.Told
+open_kind (LocationDiffers place location) = kinds.Told
+open_kind (Read e) = read_kind e
 
--- and so in an opening
-abbrev pub OpenRose : Result Opened OpenErr → ℕ → ℕ → Type 0
-OpenRose (Ok o) before now = Unit {0}
-OpenRose (Err (NoTable place)) before now = Unit {0}
-OpenRose (Err (LocationDiffers place location)) before now = Unit {0}
-OpenRose (Err (Read e)) before now = FaultRose e before now
+-- and of an opening
+abbrev pub opening_kind : {T : Type 0} → Result T OpenErr → Kind
+opening_kind (Ok x) = kinds.Done
+opening_kind (Err e) = open_kind e
+
+-- a call that looks at a place failed, and is marked; or memory lacked; else the mark stays
+abbrev pub LookMarks : {T : Type 0} → Parts → Result T StoreErr → Option Failure → Option Failure → Option Past → Type 0
+LookMarks place (Ok x) before now told = now ≡ before
+LookMarks place (Err e) before now told = MarksBy e (Look place) before now told
+
+-- so for an opening, which only looks: the failed call is a look at the place at which it is told
+abbrev pub OpenMarks : Kind → Option Failure → Option Failure → Option Past → Type 0
+OpenMarks kinds.Done before now told = now ≡ before
+OpenMarks kinds.Told before now told = now ≡ before
+OpenMarks (kinds.Fault place) before now told = MarksBy Failed (Look place) before now told
+OpenMarks (kinds.Unknown version) before now told = ⊥
+OpenMarks (kinds.Lost version) before now told = ⊥
+OpenMarks kinds.Memory before now told = now ≡ before

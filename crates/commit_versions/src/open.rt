@@ -8,8 +8,8 @@ ghost use Rattle.commit_history.specs.Mannered.{IsMannered};
 ghost use Rattle.commit_history.specs.Readings.{rules_of};
 ghost use Rattle.commit_history.specs.Versions.{number_in, folder};
 ghost use Rattle.commit_publish.specs.Stages.{Creating, InState};
-ghost use Rattle.commit_publish.specs.Leaves.{Halts};
-ghost use Rattle.commit_versions.specs.Opening.{OpenStage, FindLeaves, ReadLeaves, ReadOpened, FoundStage, FoundLeaves, OpenLeaves, OpenRose, OpenFaultAt, version_file_of};
+ghost use Rattle.commit_publish.specs.Kinds.{Counts};
+ghost use Rattle.commit_versions.specs.Opening.{OpenStage, FindLeaves, ReadLeaves, ReadOpened, FoundStage, FoundLeaves, OpenLeaves, OpenFaultAt, OpenMarks, LookMarks, opening_kind, version_file_of};
 ghost use Rattle.commit_versions.specs.Latest.{IsLatest, IsBaseNumber, IsFound, HasBaseNumber};
 
 use crate::names::metadata_folder;
@@ -90,7 +90,7 @@ pub fn find_version<R: TableReading, M: Manners, S: Store<M>>(
     ensures numbers { IfOk result (λ f. HasBaseNumber (number_in table.now) f) }
     ensures manners { S.manners store.new ≡ S.manners store.old }
     ensures cause { HasCause (S.faults store.old) (S.faults store.new) result }
-    ensures halted { Halts result (S.halted store.old) (S.halted store.new) (S.past store.new) }
+    ensures halted { LookMarks dir.now result (S.halted store.old) (S.halted store.new) (S.past store.new) }
 {
     match store.names(dir) {
         Ok(listed) => found_in(table, listed.inner()),
@@ -120,7 +120,7 @@ pub fn read_version<R: TableReading, M: Manners, S: Store<M>>(
     ensures told { Since (S.past store.old) (S.past store.new) (ReadLeaves (rules_of R.content table.now (M.allows (S.manners store.old))) place.now result) }
     ensures manners { S.manners store.new ≡ S.manners store.old }
     ensures cause { HasCause (S.faults store.old) (S.faults store.new) result }
-    ensures halted { Halts result (S.halted store.old) (S.halted store.new) (S.past store.new) }
+    ensures halted { LookMarks place.now result (S.halted store.old) (S.halted store.new) (S.past store.new) }
 {
     match store.read_at(place, 0, FILE_LIMIT + 1) {
         Ok(Some(text)) => Ok(sized(text)),
@@ -141,10 +141,10 @@ fn read_opened<R: TableReading, M: Manners, S: Store<M>>(
     ensures told { Since (S.past store.old) (S.past store.new) (ReadOpened (rules_of R.content table.now (M.allows (S.manners store.old))) place result) }
     ensures numbers { IfOk result (λ o. IsBaseNumber (number_in table.now) o.place o.version) }
     ensures manners { S.manners store.new ≡ S.manners store.old }
-    ensures cause { OpenRose result (S.faults store.old) (S.faults store.new) }
+    ensures cause { Counts (opening_kind result) (S.faults store.old) (S.faults store.new) }
     ensures place { IfErr result (λ e. OpenFaultAt table.now e) }
     ensures later { S.faults store.old ≤ S.faults store.new }
-    ensures halted { Halts result (S.halted store.old) (S.halted store.new) (S.past store.new) }
+    ensures halted { OpenMarks (opening_kind result) (S.halted store.old) (S.halted store.new) (S.past store.new) }
 {
     match read_version::<R, M, S>(store, table, &place) {
         Ok(VersionFile::Whole(text)) => Ok(Opened {
@@ -176,10 +176,10 @@ fn open_found<R: TableReading, M: Manners, S: Store<M>>(
     ensures told { Since (S.past store.old) (S.past store.new) (FoundLeaves (rules_of R.content table.now (M.allows (S.manners store.old))) table.now found result) }
     ensures numbers { IfOk result (λ o. IsBaseNumber (number_in table.now) o.place o.version) }
     ensures manners { S.manners store.new ≡ S.manners store.old }
-    ensures cause { OpenRose result (S.faults store.old) (S.faults store.new) }
+    ensures cause { Counts (opening_kind result) (S.faults store.old) (S.faults store.new) }
     ensures place { IfErr result (λ e. OpenFaultAt table.now e) }
     ensures later { S.faults store.old ≤ S.faults store.new }
-    ensures halted { Halts result (S.halted store.old) (S.halted store.new) (S.past store.new) }
+    ensures halted { OpenMarks (opening_kind result) (S.halted store.old) (S.halted store.new) (S.past store.new) }
 {
     match found {
         Found::Base(place, version) => read_opened::<R, M, S>(store, table, place, version),
@@ -202,10 +202,10 @@ pub fn open_version<R: TableReading, M: Manners, S: Store<M>>(
     ensures told { Since (S.past store.old) (S.past store.new) (OpenLeaves (rules_of R.content table.now (M.allows (S.manners store.old))) table.now result) }
     ensures numbers { IfOk result (λ o. IsBaseNumber (number_in table.now) o.place o.version) }
     ensures manners { S.manners store.new ≡ S.manners store.old }
-    ensures cause { OpenRose result (S.faults store.old) (S.faults store.new) }
+    ensures cause { Counts (opening_kind result) (S.faults store.old) (S.faults store.new) }
     ensures place { IfErr result (λ e. OpenFaultAt table.now e) }
     ensures later { S.faults store.old ≤ S.faults store.new }
-    ensures halted { Halts result (S.halted store.old) (S.halted store.new) (S.past store.new) }
+    ensures halted { OpenMarks (opening_kind result) (S.halted store.old) (S.halted store.new) (S.past store.new) }
 {
     let Ok(name) = table.copy() else {
         return Err(OpenErr::Read(ReadErr::Memory));
