@@ -71,13 +71,13 @@ fn publish_steps<R: TableReading, M: Manners, S: Store<M>>(
 }
 
 // the log has what was committed, and what is left
-fn note(log: &mut Log, result: &Result<(), PublishErr>, version: u64, draft: Place, target: Place)
+fn note(log: &mut Log, outcome: &Result<(), PublishErr>, version: u64, draft: Place, target: Place)
     requires committed_room { vec_len log.old.committed + 1 ≤ vec_capacity log.old.committed }
     requires left_room { vec_len log.old.left + 2 ≤ vec_capacity log.old.left }
-    ensures committed { log.new.committed.items ≡ log.old.committed.items ++ published_by version result.now }
-    ensures left { log.new.left.items ≡ log.old.left.items ++ left_by draft target result.now }
+    ensures committed { log.new.committed.items ≡ log.old.committed.items ++ published_by version outcome.now }
+    ensures left { log.new.left.items ≡ log.old.left.items ++ left_by draft target outcome.now }
 {
-    match result {
+    match outcome {
         Ok(()) => log.committed.push_reserved(version),
         Err(PublishErr::Stopped(e)) => note_left(log, *e, draft, target),
         Err(_) => {}
@@ -132,7 +132,7 @@ pub fn publish<R: TableReading, M: Manners, S: Store<M>>(
     if log.committed.reserve(1).is_err() || log.left.reserve(2).is_err() {
         return Err(PublishErr::Stopped(lacks));
     }
-    let result = publish_steps::<R, M, S>(store, route, bytes);
-    note(log, &result, version, draft, target);
-    result
+    let outcome = publish_steps::<R, M, S>(store, route, bytes);
+    note(log, &outcome, version, draft, target);
+    outcome
 }
