@@ -1,5 +1,5 @@
 -- What one attempt of a commit leaves, by its answer.
-use Rattle.std.specs.Prelude.{◌≡◌, ◌⊎◌, ℕ, ◌+◌, ◌<◌, ◌≤◌, List, [], ◌∷◌, ◌++◌, length, codes, Result, Ok, Err}
+use Rattle.std.specs.Prelude.{◌≡◌, ◌⊎◌, ℕ, ◌+◌, ◌<◌, ◌≤◌, true, false, List, [], ◌∷◌, ◌++◌, length, codes, Result, Ok, Err}
 use Rattle.serde_json.specs.Data.{Data}
 use Rattle.serde_json.specs.View.{view}
 use Rattle.ice_store.specs.Places.{Parts}
@@ -13,18 +13,22 @@ use Rattle.commit_history.specs.Runs.{Ran}
 use Rattle.table_metadata.specs.Spelling.{Spells}
 use Rattle.metadata_view.specs.View.{location_of}
 use Rattle.table_metadata.specs.Edits.{next_version, HasVersionLimit}
-use Rattle.commit_publish.specs.Stages.{Aim, Exactly, Anything}
+use Rattle.commit_publish.specs.Kinds.{told_at}
+use Rattle.commit_publish.specs.Stages.{Aim}
+use Rattle.commit_publish.specs.Steps.{Exactly, Anything, step_of}
 use Rattle.commit_versions.specs.Opening.{file_limit}
 use Rattle.commit_versions.specs.Names.{version_text_of, version_name, draft_name}
 use Rattle.commit_history.specs.Versions.{folder, number_in}
 use Rattle.serde_json.specs.Written.{compact_text}
 use Rattle.commit_publish.specs.Leaves.{PublishLeaves}
 use Rattle.commit_publish.specs.declared.steps.Route.{Route}
-use Rattle.commit_publish.specs.declared.steps.FailedCall.{FailedCall}
-use Rattle.commit_publish.specs.declared.steps.FailedCall.TheVariants.{OnFile, OnNames}
+use Rattle.commit_publish.specs.declared.steps.PublishCall.{PublishCall}
 use Rattle.commit_publish.specs.declared.publish.PublishErr.{PublishErr}
-use Rattle.commit_publish.specs.declared.publish.PublishErr.TheVariants as PublishErr_
-use Rattle.commit_publish.specs.declared.publish.PublishErr.TheVariants.{NameTaken, Fault, NoMemory}
+use Rattle.commit_publish.specs.declared.publish.PublishErr.TheVariants as publishes
+use Rattle.ice_store.specs.declared.history.StoreCall.TheVariants.{Take}
+use Rattle.ice_store.specs.declared.store.StoreErr.{StoreErr}
+use Rattle.ice_store.specs.declared.store.StoreErr.TheVariants as causes
+use Rattle.commit_protocol.specs.Kinds.{is_renaming}
 use Rattle.commit_protocol.specs.Meanings.{Meanings}
 use Rattle.commit_protocol.specs.Metadata.{IsAt, OpenErrLeaves, metadata_rules}
 use Rattle.commit_protocol.specs.declared.opening.At.{At}
@@ -91,10 +95,9 @@ limit_path = codes "properties.write.metadata.previous-versions-max"
 abbrev pub TellsLimit : Parts → CommitErr → Type 0
 TellsLimit place e = (e ≡ Attempt (attempts.Read (Damaged place (Path limit_path)))) ⊎ (e ≡ Attempt (attempts.Read Memory))
 
--- the place at which a failed call of a publish is told
-abbrev pub faulty_place : FailedCall → Parts → Parts → Parts
-faulty_place OnFile draft table = draft
-faulty_place OnNames draft table = table
+-- a publish that stopped at this call for this cause
+abbrev pub stopped_at : PublishCall → StoreErr → Result (Unit {0}) PublishErr
+stopped_at call cause = Err (publishes.Stopped (record { call = call; cause = cause }))
 
 module _ (table : Parts) (allows : Past → Step → Type 0) where
   -- no step of ours was taken
@@ -112,19 +115,34 @@ module _ (table : Parts) (allows : Past → Step → Type 0) where
       pub drafted : Drafted Drawn meanings.successor table now at
       pub left : DraftLeaves Drawn meanings.successor now at drafted result old new
 
-    -- a file was drawn up, and a call of its publish failed, which is told at this place
+    -- a file was drawn up, and a call of its publish failed, none of its renaming, which is told at this place
     pub record FaultBy (at : At) (place : Parts) (old new : Past) : Type 0 where
-      pub call : FailedCall
+      pub call : PublishCall
+      pub kind : is_renaming call ≡ false
       pub drafted : Drafted Drawn meanings.successor table now at
-      pub place_is : place ≡ faulty_place call drafted.route.draft table
-      pub left : DraftLeaves Drawn meanings.successor now at drafted (Err (Fault call)) old new
+      pub place_is : place ≡ told_at table (Take (step_of drafted.route.draft drafted.route.target drafted.bytes call))
+      pub left : DraftLeaves Drawn meanings.successor now at drafted (stopped_at call causes.Failed) old new
+
+    -- a file was drawn up for this version, and a call of its renaming failed
+    pub record UnknownBy (at : At) (version : ℕ) (old new : Past) : Type 0 where
+      pub call : PublishCall
+      pub kind : is_renaming call ≡ true
+      pub version_is : version ≡ at.version + 1
+      pub limit : HasVersionLimit (view at.meta)
+      pub published : PublishedBy at (stopped_at call causes.Failed) old new
+
+    -- a file was drawn up, and memory lacked for a call of its publish
+    pub record LackingBy (at : At) (old new : Past) : Type 0 where
+      pub call : PublishCall
+      pub limit : HasVersionLimit (view at.meta)
+      pub published : PublishedBy at (stopped_at call causes.Memory) old new
 
     -- a file was drawn up, and its name at this place was taken
     pub record TakenBy (at : At) (place : Parts) (old new : Past) : Type 0 where
       pub limit : HasVersionLimit (view at.meta)
       pub drafted : Drafted Drawn meanings.successor table now at
       pub place_is : place ≡ drafted.route.draft
-      pub left : DraftLeaves Drawn meanings.successor now at drafted (Err NameTaken) old new
+      pub left : DraftLeaves Drawn meanings.successor now at drafted (Err publishes.NameTaken) old new
 
     -- the change refused the base so
     pub record RefusedBy (at : At) (e : AttemptErr) (old new : Past) : Type 0 where
@@ -146,7 +164,7 @@ module _ (table : Parts) (allows : Past → Step → Type 0) where
     ReadErrBy at (Damaged place where_) old new = RefusedBy at (attempts.Read (Damaged place where_)) old new ⊎ ((where_ ≡ Path limit_path) × UnlimitedBy at place old new)
     ReadErrBy at (Unsupported place what) old new = RefusedBy at (attempts.Read (Unsupported place what)) old new ⊎ ((what ≡ FileBytes) × TooLongBy at place old new)
     ReadErrBy at (StoreFault place) old new = RefusedBy at (attempts.Read (StoreFault place)) old new ⊎ FaultBy at place old new
-    ReadErrBy at Memory old new = Idle old new ⊎ PublishedBy at (Err NoMemory) old new
+    ReadErrBy at Memory old new = Idle old new ⊎ LackingBy at old new
 
     -- what an attempt leaves that didn't come to its publish or was refused a name
     abbrev pub AttemptErrBy : At → AttemptErr → Past → Past → Type 0
@@ -155,9 +173,9 @@ module _ (table : Parts) (allows : Past → Step → Type 0) where
     AttemptErrBy at (attempts.NameTaken place) old new = RefusedBy at (attempts.NameTaken place) old new ⊎ TakenBy at place old new
     AttemptErrBy at (attempts.Read e) old new = ReadErrBy at e old new
 
-    -- the attempt was for the version after the base's, and its publish ended so
-    abbrev pub NextBy : At → ℕ → Result (Unit {0}) PublishErr → Past → Past → Type 0
-    NextBy at version result old new = (version ≡ at.version + 1) × HasVersionLimit (view at.meta) × PublishedBy at result old new
+    -- the attempt was for the version after the base's, and others took it first
+    abbrev pub LostBy : At → ℕ → Past → Past → Type 0
+    LostBy at version old new = (version ≡ at.version + 1) × HasVersionLimit (view at.meta) × PublishedBy at (Err publishes.Contended) old new
 
     -- what an attempt on an opened table leaves, by its answer
     abbrev pub AttemptLeaves : At → Result Committed CommitErr → Past → Past → Type 0
@@ -165,8 +183,8 @@ module _ (table : Parts) (allows : Past → Step → Type 0) where
     AttemptLeaves at (Ok (Published version)) old new = (version ≡ at.version + 1) × HasVersionLimit (view at.meta) × meanings.seen (view at.meta) × PublishedBy at (Ok tt) old new
     AttemptLeaves at (Err (Open e)) old new = ⊥
     AttemptLeaves at (Err (Attempt e)) old new = AttemptErrBy at e old new
-    AttemptLeaves at (Err (Contended version)) old new = NextBy at version (Err PublishErr_.Contended) old new
-    AttemptLeaves at (Err (CommitUnknown version)) old new = NextBy at version (Err PublishErr_.Unknown) old new
+    AttemptLeaves at (Err (Contended version)) old new = LostBy at version old new
+    AttemptLeaves at (Err (CommitUnknown version)) old new = UnknownBy at version old new
 
     -- the table was opened, and then an attempt on it ended so
     pub record Attempted (result : Result Committed CommitErr) (old new : Past) : Type 0 where

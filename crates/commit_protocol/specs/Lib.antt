@@ -1,8 +1,8 @@
 pub mod Meanings
 pub mod Metadata
-pub mod Causes
+pub mod Kinds
 pub mod Attempts
 pub mod Written
+pub mod Ends
 pub mod Verdicts
 pub mod Promises
-pub mod Failures

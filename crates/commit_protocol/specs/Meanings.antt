@@ -1,5 +1,5 @@
 -- What a change of a table means.
-use Rattle.std.specs.Prelude.{◌≡◌}
+use Rattle.std.specs.Prelude.{◌≡◌, ℕ, List}
 use Rattle.serde_json.specs.Data.{Data}
 use Rattle.commit_protocol.specs.declared.errors.AttemptErr.{AttemptErr}
 
@@ -13,3 +13,9 @@ pub record Meanings : Type 1 where
 -- what makes this successor of each base, and no other
 abbrev pub only : Data → Meanings
 only built = record { successor = λ tree next. next ≡ built; same = λ tree. ⊥; refuses = λ tree e. ⊥; seen = λ tree. Unit {0} }
+
+-- what a procedure means: its change; what it needs of a base's properties; and what it reports of the base that it worked on
+pub record Procedure : Type 1 where
+  pub change : Meanings
+  pub needs : Data → Type 0
+  pub says : Data → List ℕ → Type 0

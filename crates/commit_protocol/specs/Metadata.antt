@@ -1,8 +1,9 @@
 -- Which bytes are the metadata of a table at a place, and what opening a table tells.
-use Rattle.std.specs.Prelude.{◌≡◌, ◌⊎◌, ℕ, List, Option, Some, None, Result, Ok, Err}
+use Rattle.std.specs.Prelude.{◌≡◌, ◌⊎◌, ℕ, ◌≤◌, List, length, Option, Some, None, Result, Ok, Err}
 use Rattle.serde_json.specs.Data.{Data}
 use Rattle.serde_json.specs.View.{view}
 use Rattle.ice_store.specs.Places.{Parts, place_in}
+use Rattle.ice_store.specs.History.{Disk}
 use Rattle.ice_store.specs.declared.history.Past.{Past}
 use Rattle.ice_store.specs.declared.history.Step.{Step}
 use Rattle.ice_store.specs.declared.faults.What.{What}
@@ -17,7 +18,7 @@ use Rattle.metadata_form.specs.declared.fault.MetaCause.{MetaCause}
 use Rattle.metadata_form.specs.declared.fault.MetaCause.TheVariants.{NotJson, Fraction, Version, Field, NoManifestList, DoubleId, BrokenRef, BrokenParent}
 use Rattle.table_metadata.specs.Spelling.{Spells, HasFault}
 use Rattle.metadata_view.specs.View.{location_of}
-use Rattle.commit_versions.specs.Opening.{IsOpened, OpenLeaves, ReadErrLeaves}
+use Rattle.commit_versions.specs.Opening.{IsOpened, FileIs, OpenLeaves, ReadErrLeaves, file_limit}
 use Rattle.commit_versions.specs.Latest.{IsBaseNumber}
 use Rattle.commit_versions.specs.declared.types.Opened.{Opened}
 use Rattle.commit_versions.specs.declared.types.OpenErr.{OpenErr}
@@ -29,9 +30,15 @@ pub record IsMetadata (table : Parts) (bytes : List ℕ) (tree : Data) : Type 0 
   pub spells : Spells bytes tree
   pub here : place_in (location_of tree) ≡ Ok table
 
--- the bytes are metadata of the table
+-- the bytes are metadata of the table, and no longer than a metadata file may be
 abbrev pub IsTableOf : Parts → List ℕ → Type 0
-IsTableOf table bytes = (tree : Data) × IsMetadata table bytes tree
+IsTableOf table bytes = ((tree : Data) × IsMetadata table bytes tree) × (length bytes ≤ file_limit)
+
+-- the file at a place spells this metadata of the table
+pub record HasMetadataAt (table place : Parts) (tree : Data) (d : Disk) : Type 0 where
+  pub bytes : List ℕ
+  pub file : FileIs place bytes d.files
+  pub metadata : IsMetadata table bytes tree
 
 -- what isn't supported, where this is wrong with metadata
 abbrev pub unsupported : MetaCause → Option What

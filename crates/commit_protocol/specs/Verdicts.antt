@@ -1,5 +1,5 @@
 -- What an opening and a commit answer where nobody else acts: each answer's exact cause in the files at the entry.
-use Rattle.std.specs.Prelude.{◌≡◌, ◌⊎◌, ℕ, ◌+◌, ◌<◌, ◌≤◌, true, false, List, length, Result, Ok, Err}
+use Rattle.std.specs.Prelude.{◌≡◌, ◌⊎◌, ℕ, ◌+◌, ◌<◌, ◌≤◌, true, false, List, [], ◌∷◌, length, Option, Some, None, Result, Ok, Err}
 use Rattle.serde_json.specs.Data.{Data}
 use Rattle.serde_json.specs.View.{view}
 use Rattle.serde_json.specs.Written.{compact_text}
@@ -17,16 +17,18 @@ use Rattle.ice_store.specs.declared.faults.ReadErr.TheVariants.{Missing, Damaged
 use Rattle.commit_history.specs.Tables.{version}
 use Rattle.commit_history.specs.Versions.{number_in}
 use Rattle.table_metadata.specs.Edits.{HasVersionLimit}
+use Rattle.commit_publish.specs.Kinds as kinds
+use Rattle.commit_publish.specs.Kinds.{Kind}
 use Rattle.commit_versions.specs.Latest.{IsBaseNumber}
-use Rattle.commit_versions.specs.Opening.{FileIs, IsBeyond, file_limit}
+use Rattle.commit_versions.specs.Opening.{FileIs, IsBeyond, file_limit, opening_kind}
 use Rattle.commit_versions.specs.declared.types.OpenErr.{OpenErr}
 use Rattle.commit_versions.specs.declared.types.OpenErr.TheVariants.{NoTable, LocationDiffers, Read}
+use Rattle.commit_protocol.specs.Kinds.{attempt_kind, end_of, kind_of}
 use Rattle.commit_protocol.specs.Meanings.{Meanings}
 use Rattle.commit_protocol.specs.Metadata.{IsMetadata, IsElsewhere, IsDamaged, IsUnsupported}
 use Rattle.commit_protocol.specs.Attempts.{IsNextOf, limit_path}
 use Rattle.commit_protocol.specs.Written.{draft_at}
 use Rattle.commit_protocol.specs.declared.opening.At.{At}
-use Rattle.commit_protocol.specs.declared.errors.Refusal.{Refusal}
 use Rattle.commit_protocol.specs.declared.errors.AttemptErr.{AttemptErr}
 use Rattle.commit_protocol.specs.declared.errors.AttemptErr.TheVariants as attempts
 use Rattle.commit_protocol.specs.declared.errors.CommitErr.{CommitErr}
@@ -95,23 +97,23 @@ OpenVerdict table files (Err (Read Memory)) = Unit {0}
 
 -- A commit.
 
--- the base of a commit: the table, whose log limit can be read, and of whose version and metadata this holds
-pub record OnBase (table : Parts) (files : List Held) (P : ℕ → Data → Type 0) : Type 0 where
+-- the base of work that needs this of a base's properties: the table, which has them, and of whose version and metadata this holds
+pub record OnBase (Needs : Data → Type 0) (table : Parts) (files : List Held) (P : ℕ → Data → Type 0) : Type 0 where
   pub place : Parts
   pub last : ℕ
   pub bytes : List ℕ
   pub tree : Data
   pub is : IsTable table files place last bytes tree
-  pub limit : HasVersionLimit tree
+  pub has : Needs tree
   pub holds : P last tree
 
--- the table stands at this place, and its log limit can't be read
-pub record IsUnlimited (table : Parts) (files : List Held) (place : Parts) : Type 0 where
+-- the table stands at this place, and lacks them
+pub record IsUnfit (Needs : Data → Type 0) (table : Parts) (files : List Held) (place : Parts) : Type 0 where
   pub last : ℕ
   pub bytes : List ℕ
   pub tree : Data
   pub is : IsTable table files place last bytes tree
-  pub unlimited : HasVersionLimit tree → ⊥
+  pub lacks : Needs tree → ⊥
 
 -- no more bytes than a metadata file may have
 abbrev pub IsShort : ℕ → Type 0
@@ -133,88 +135,81 @@ module _ (successor : Data → Data → Type 0) (Drawn : ℕ → Type 0) (table 
     pub length_is : Long (length (compact_text next))
 
   -- the new file's name is free
-  pub record IsFree (files : List Held) (last : ℕ) (tree : Data) : Type 0 where
+  pub record IsDraftFree (files : List Held) (last : ℕ) (tree : Data) : Type 0 where
     pub draft : Parts
     pub drawn_up : DrawsUp IsShort last tree draft
     pub free : is_named files draft ≡ false
 
--- a change with these meanings, at a moment, where identifiers were drawn
-module _ (meanings : Meanings) (Drawn : ℕ → Type 0) (table : Parts) (now : ℕ) where
+-- work with these meanings, which needs this of a base's properties, at a moment, where identifiers were drawn
+module _ (Needs : Data → Type 0) (meanings : Meanings) (Drawn : ℕ → Type 0) (table : Parts) (now : ℕ) where
   -- the base is refused so
   abbrev pub RefusesBase : List Held → AttemptErr → Type 0
-  RefusesBase files e = OnBase table files (λ last tree. meanings.refuses tree e)
+  RefusesBase files e = OnBase Needs table files (λ last tree. meanings.refuses tree e)
 
-  -- the change builds a next version, of whose written form's length this holds, and whose new file goes to this place
+  -- a next version is built, of whose written form's length this holds, and whose new file goes to this place
   abbrev pub Draws : (ℕ → Type 0) → ℕ → Data → Parts → Type 0
   Draws = DrawsUp meanings.successor Drawn table now
 
-  -- the new file's name is taken, or the change refuses the base so
+  -- the new file's name is taken, or the base is refused so
   abbrev pub IsNameTaken : List Held → Parts → Type 0
-  IsNameTaken files place = OnBase table files (λ last tree. meanings.refuses tree (attempts.NameTaken place) ⊎ (Draws IsShort last tree place × (is_named files place ≡ true)))
+  IsNameTaken files place = OnBase Needs table files (λ last tree. meanings.refuses tree (attempts.NameTaken place) ⊎ (Draws IsShort last tree place × (is_named files place ≡ true)))
 
-  -- the written form is too long, or the change refuses the base so
+  -- the written form is too long, or the base is refused so
   abbrev pub IsUnsupportedText : List Held → Parts → What → Type 0
-  IsUnsupportedText files place what = OnBase table files (λ last tree. meanings.refuses tree (attempts.Read (Unsupported place what)) ⊎ ((what ≡ FileBytes) × Draws IsLongText last tree place))
+  IsUnsupportedText files place what = OnBase Needs table files (λ last tree. meanings.refuses tree (attempts.Read (Unsupported place what)) ⊎ ((what ≡ FileBytes) × Draws IsLongText last tree place))
 
-  -- the cause of a commit's answer in these files; that of a store fault and of an unknown commit is the count of faults, and want of memory is free
+  -- nothing is to be changed
+  abbrev pub IsSame : List Held → ℕ → Type 0
+  IsSame files version = OnBase Needs table files (λ last tree. (version ≡ last) × meanings.same tree)
+
+  -- this version is built, and the new file's name is free
+  abbrev pub IsBuilt : List Held → ℕ → Type 0
+  IsBuilt files version = OnBase Needs table files (λ last tree. (version ≡ last + 1) × IsDraftFree meanings.successor Drawn table now files last tree)
+
+  -- the cause of an error in these files; that of a store fault and of an unknown commit is the count of faults, and want of memory is free
+  abbrev pub ErrorVerdict : List Held → CommitErr → Type 0
+  ErrorVerdict files (Open e) = OpenVerdict table files (Err e)
+  ErrorVerdict files (Attempt (attempts.Refused refusal)) = RefusesBase files (attempts.Refused refusal)
+  ErrorVerdict files (Attempt (attempts.Conflict place other)) = RefusesBase files (attempts.Conflict place other)
+  ErrorVerdict files (Attempt (attempts.NameTaken place)) = IsNameTaken files place
+  ErrorVerdict files (Attempt (attempts.Read (Missing place))) = RefusesBase files (attempts.Read (Missing place))
+  ErrorVerdict files (Attempt (attempts.Read (Damaged place at))) = RefusesBase files (attempts.Read (Damaged place at)) ⊎ ((at ≡ Path limit_path) × IsUnfit Needs table files place)
+  ErrorVerdict files (Attempt (attempts.Read (Unsupported place what))) = IsUnsupportedText files place what
+  ErrorVerdict files (Attempt (attempts.Read (StoreFault place))) = Unit {0}
+  ErrorVerdict files (Attempt (attempts.Read Memory)) = Unit {0}
+  ErrorVerdict files (Contended v) = ⊥
+  ErrorVerdict files (CommitUnknown v) = Unit {0}
+
+  -- the cause of an end, by the versions that were published and the error
+  abbrev pub EndVerdict : List Held → List ℕ → Option CommitErr → Type 0
+  EndVerdict files [] None = OnBase Needs table files (λ last tree. meanings.same tree)
+  EndVerdict files (v ∷ versions) None = (versions ≡ []) × IsBuilt files v
+  EndVerdict files versions (Some e) = ErrorVerdict files e
+
+  -- the cause of a commit's answer
   abbrev pub CommitVerdict : List Held → Result Committed CommitErr → Type 0
-  CommitVerdict files (Ok (Same v)) = OnBase table files (λ last tree. (v ≡ last) × meanings.same tree)
-  CommitVerdict files (Ok (Published v)) = OnBase table files (λ last tree. (v ≡ last + 1) × IsFree meanings.successor Drawn table now files last tree)
-  CommitVerdict files (Err (Open e)) = OpenVerdict table files (Err e)
-  CommitVerdict files (Err (Attempt (attempts.Refused refusal))) = RefusesBase files (attempts.Refused refusal)
-  CommitVerdict files (Err (Attempt (attempts.Conflict place other))) = RefusesBase files (attempts.Conflict place other)
-  CommitVerdict files (Err (Attempt (attempts.NameTaken place))) = IsNameTaken files place
-  CommitVerdict files (Err (Attempt (attempts.Read (Missing place)))) = RefusesBase files (attempts.Read (Missing place))
-  CommitVerdict files (Err (Attempt (attempts.Read (Damaged place at)))) = RefusesBase files (attempts.Read (Damaged place at)) ⊎ ((at ≡ Path limit_path) × IsUnlimited table files place)
-  CommitVerdict files (Err (Attempt (attempts.Read (Unsupported place what)))) = IsUnsupportedText files place what
-  CommitVerdict files (Err (Attempt (attempts.Read (StoreFault place)))) = Unit {0}
-  CommitVerdict files (Err (Attempt (attempts.Read Memory))) = Unit {0}
-  CommitVerdict files (Err (Contended v)) = ⊥
-  CommitVerdict files (Err (CommitUnknown v)) = Unit {0}
-
--- no event is added, but by a publish and by what may have been one
-abbrev pub IsIdle : Result Committed CommitErr → Past → Past → Type 0
-IsIdle (Ok (Same v)) old new = new ≡ old
-IsIdle (Ok (Published v)) old new = Unit {0}
-IsIdle (Err (Open e)) old new = new ≡ old
-IsIdle (Err (Attempt (attempts.Refused refusal))) old new = new ≡ old
-IsIdle (Err (Attempt (attempts.Conflict place other))) old new = new ≡ old
-IsIdle (Err (Attempt (attempts.NameTaken place))) old new = new ≡ old
-IsIdle (Err (Attempt (attempts.Read (Missing place)))) old new = new ≡ old
-IsIdle (Err (Attempt (attempts.Read (Damaged place at)))) old new = new ≡ old
-IsIdle (Err (Attempt (attempts.Read (Unsupported place what)))) old new = new ≡ old
-IsIdle (Err (Attempt (attempts.Read (StoreFault place)))) old new = Unit {0}
-IsIdle (Err (Attempt (attempts.Read Memory))) old new = Unit {0}
-IsIdle (Err (Contended v)) old new = Unit {0}
-IsIdle (Err (CommitUnknown v)) old new = Unit {0}
+  CommitVerdict files (Ok (Same v)) = IsSame files v
+  CommitVerdict files (Ok (Published v)) = IsBuilt files v
+  CommitVerdict files (Err e) = ErrorVerdict files e
 
 -- Each verdict is the only one.
 
--- an answer whose cause is a state, and no fault or want of memory
-abbrev pub IsReadTold : ReadErr → Type 0
-IsReadTold (Missing place) = Unit {0}
-IsReadTold (Damaged place at) = Unit {0}
-IsReadTold (Unsupported place what) = Unit {0}
-IsReadTold (StoreFault place) = ⊥
-IsReadTold Memory = ⊥
+-- an end of this kind has its cause in a state: it is no fault, no unknown commit and no want of memory
+abbrev pub IsOfState : Kind → Type 0
+IsOfState kinds.Done = Unit {0}
+IsOfState kinds.Told = Unit {0}
+IsOfState (kinds.Fault place) = ⊥
+IsOfState (kinds.Unknown version) = ⊥
+IsOfState (kinds.Lost version) = Unit {0}
+IsOfState kinds.Memory = ⊥
 
--- and of an opening
+-- so has an opening's answer
 abbrev pub IsOpeningTold : Result At OpenErr → Type 0
-IsOpeningTold (Ok at) = Unit {0}
-IsOpeningTold (Err (NoTable place)) = Unit {0}
-IsOpeningTold (Err (LocationDiffers place location)) = Unit {0}
-IsOpeningTold (Err (Read e)) = IsReadTold e
+IsOpeningTold result = IsOfState (opening_kind result)
 
--- and of a commit
+-- and a commit's
 abbrev pub IsTold : Result Committed CommitErr → Type 0
-IsTold (Ok c) = Unit {0}
-IsTold (Err (Open e)) = IsOpeningTold (Err e)
-IsTold (Err (Attempt (attempts.Refused refusal))) = Unit {0}
-IsTold (Err (Attempt (attempts.Conflict place other))) = Unit {0}
-IsTold (Err (Attempt (attempts.NameTaken place))) = Unit {0}
-IsTold (Err (Attempt (attempts.Read e))) = IsReadTold e
-IsTold (Err (Contended v)) = Unit {0}
-IsTold (Err (CommitUnknown v)) = ⊥
+IsTold result = IsOfState (kind_of (end_of result))
 
 -- what an opened table shows
 pub record Shown : Type 0 where
@@ -233,34 +228,22 @@ abbrev pub IsOneOpening : Parts → Type 0
 IsOneOpening table = (files : List Held) (r s : Result At OpenErr) → IsOpeningTold r → IsOpeningTold s
     → OpenVerdict table files r → OpenVerdict table files s → shown r ≡ shown s
 
--- a refusal by what the table has, or want of memory
-abbrev pub IsPlain : AttemptErr → Type 0
-IsPlain (attempts.Refused refusal) = Unit {0}
-IsPlain (attempts.Conflict place other) = ⊥
-IsPlain (attempts.NameTaken place) = ⊥
-IsPlain (attempts.Read (Missing place)) = ⊥
-IsPlain (attempts.Read (Damaged place at)) = ⊥
-IsPlain (attempts.Read (Unsupported place what)) = ⊥
-IsPlain (attempts.Read (StoreFault place)) = ⊥
-IsPlain (attempts.Read Memory) = Unit {0}
-
--- the meanings of a change exclude one another, and each gives one answer; it refuses by what the table has alone
+-- the meanings of a change exclude one another, and each gives one answer; a refusal is an error that is told, whichever it is
 pub record IsDecided (meanings : Meanings) : Type 0 where
-  pub plain : (tree : Data) (e : AttemptErr) → meanings.refuses tree e → IsPlain e
-  pub one_refusal : (tree : Data) (r s : Refusal) → meanings.refuses tree (attempts.Refused r) → meanings.refuses tree (attempts.Refused s) → r ≡ s
+  pub one_refusal : (tree : Data) (e f : AttemptErr) → attempt_kind e ≡ kinds.Told → attempt_kind f ≡ kinds.Told → meanings.refuses tree e → meanings.refuses tree f → e ≡ f
   pub one_successor : (tree a b : Data) → meanings.successor tree a → meanings.successor tree b → a ≡ b
   pub built_or_same : (tree built : Data) → meanings.successor tree built → meanings.same tree → ⊥
-  pub built_or_refused : (tree built : Data) (r : Refusal) → meanings.successor tree built → meanings.refuses tree (attempts.Refused r) → ⊥
-  pub same_or_refused : (tree : Data) (r : Refusal) → meanings.same tree → meanings.refuses tree (attempts.Refused r) → ⊥
+  pub built_or_refused : (tree built : Data) (e : AttemptErr) → attempt_kind e ≡ kinds.Told → meanings.successor tree built → meanings.refuses tree e → ⊥
+  pub same_or_refused : (tree : Data) (e : AttemptErr) → attempt_kind e ≡ kinds.Told → meanings.same tree → meanings.refuses tree e → ⊥
 
 -- all identifiers that are told as drawn are one; of a source that tells nothing it may be none or any
 abbrev pub IsOneDrawn : (ℕ → Type 0) → Type 0
 IsOneDrawn Drawn = (a b : ℕ) → Drawn a → Drawn b → a ≡ b
 
--- two told verdicts of one commit are one
+-- two told verdicts of one commit are one, whatever is needed of a base
 abbrev pub IsOneCommit : Parts → ℕ → Meanings → (ℕ → Type 0) → Type 0
-IsOneCommit table now meanings Drawn = (files : List Held) (r s : Result Committed CommitErr) → IsTold r → IsTold s
-    → CommitVerdict meanings Drawn table now files r → CommitVerdict meanings Drawn table now files s → r ≡ s
+IsOneCommit table now meanings Drawn = (Needs : Data → Type 0) (files : List Held) (r s : Result Committed CommitErr) → IsTold r → IsTold s
+    → CommitVerdict Needs meanings Drawn table now files r → CommitVerdict Needs meanings Drawn table now files s → r ≡ s
 
 -- Exactly.
 
@@ -270,13 +253,13 @@ IsExactOpening table result files = (r : Result At OpenErr) → IsOpeningTold r 
 
 -- where an answer's cause stands in these files, it is the commit's answer, but for want of memory and faults
 abbrev pub IsExactCommit : Meanings → (ℕ → Type 0) → Parts → ℕ → Result Committed CommitErr → List Held → Type 0
-IsExactCommit meanings Drawn table now result files = (r : Result Committed CommitErr) → IsTold r → CommitVerdict meanings Drawn table now files r → IsTold result → result ≡ r
+IsExactCommit meanings Drawn table now result files = (r : Result Committed CommitErr) → IsTold r → CommitVerdict HasVersionLimit meanings Drawn table now files r → IsTold result → result ≡ r
 
 -- Of a call between two moments.
 
 -- the answer of a commit has its cause in the files at the entry
 abbrev pub IsCaused : Meanings → (ℕ → Type 0) → Parts → ℕ → Result Committed CommitErr → Past → Past → Type 0
-IsCaused meanings Drawn table now result old new = CommitVerdict meanings Drawn table now (replay old).files result
+IsCaused meanings Drawn table now result old new = CommitVerdict HasVersionLimit meanings Drawn table now (replay old).files result
 
 -- where nobody else acts, the meanings exclude one another and one identifier was drawn, the answer whose cause stands in the files at the entry is the one given
 abbrev pub IsExactly : (Past → Step → Type 0) → Meanings → (ℕ → Type 0) → Parts → ℕ → Result Committed CommitErr → Past → Past → Type 0

@@ -1,21 +1,21 @@
--- A new metadata file as it is drawn up, and what a commit tells besides.
+-- A new metadata file as it is drawn up, and the errors of its publish.
 use Rattle.std.specs.Prelude.{◌≡◌, ◌⊎◌, ℕ, ◌+◌, ◌<◌, ◌≤◌, List, [], ◌∷◌, ◌++◌, length, Result, Ok, Err}
 use Rattle.serde_json.specs.Data.{Data}
 use Rattle.serde_json.specs.View.{view}
 use Rattle.serde_json.specs.Written.{compact_text}
 use Rattle.ice_store.specs.Places.{Parts}
-use Rattle.ice_store.specs.Calls.{Rose}
 use Rattle.ice_store.specs.declared.history.Past.{Past}
 use Rattle.ice_store.specs.declared.history.Step.{Step}
 use Rattle.ice_store.specs.declared.faults.What.TheVariants.{FileBytes}
+use Rattle.ice_store.specs.declared.store.StoreErr.{StoreErr}
+use Rattle.ice_store.specs.declared.store.StoreErr.TheVariants as causes
 use Rattle.ice_store.specs.declared.faults.ReadErr.TheVariants.{Missing, Damaged, Unsupported, StoreFault, Memory}
 use Rattle.commit_history.specs.Versions.{number_in, folder}
 use Rattle.metadata_view.specs.View.{location_of}
 use Rattle.table_metadata.specs.Edits.{HasVersionLimit, next_version}
 use Rattle.commit_publish.specs.Stages.{Aim}
-use Rattle.commit_publish.specs.Left.{IsNaming, Notes}
-use Rattle.commit_publish.specs.declared.steps.FailedCall.TheVariants.{OnFile, OnNames}
-use Rattle.commit_publish.specs.declared.publish.Log.{Log}
+use Rattle.commit_publish.specs.declared.steps.PublishCall.{PublishCall}
+use Rattle.commit_publish.specs.declared.steps.PublishCall.TheVariants as calls
 use Rattle.commit_publish.specs.declared.publish.PublishErr.{PublishErr}
 use Rattle.commit_publish.specs.declared.publish.PublishErr.TheVariants as publishes
 use Rattle.commit_versions.specs.Names.{version_text_of, version_name, draft_name}
@@ -79,60 +79,24 @@ IsUnwritten table base built now id (attempts.Read (Unsupported place what)) = (
 IsUnwritten table base built now id (attempts.Read (StoreFault place)) = ⊥
 IsUnwritten table base built now id (attempts.Read Memory) = Unit {0}
 
+-- the error of a publish that stopped at this call, at the commit: of its renaming it isn't known, and else it is told at the new file, or at the table for a sync of names
+abbrev pub stop_error : PublishCall → StoreErr → Parts → Parts → ℕ → CommitErr
+stop_error call causes.Memory draft table version = Attempt (attempts.Read Memory)
+stop_error calls.Create causes.Failed draft table version = Attempt (attempts.Read (StoreFault draft))
+stop_error calls.Append causes.Failed draft table version = Attempt (attempts.Read (StoreFault draft))
+stop_error calls.Seal causes.Failed draft table version = Attempt (attempts.Read (StoreFault draft))
+stop_error calls.SyncDraft causes.Failed draft table version = Attempt (attempts.Read (StoreFault table))
+stop_error calls.Rename causes.Failed draft table version = CommitUnknown version
+stop_error calls.SyncRename causes.Failed draft table version = CommitUnknown version
+stop_error calls.Remove causes.Failed draft table version = Attempt (attempts.Read (StoreFault draft))
+stop_error calls.SyncRemoval causes.Failed draft table version = Attempt (attempts.Read (StoreFault table))
+
 -- what the error of a publish of this draft and version is at the commit
 abbrev pub commit_error_by : PublishErr → Parts → Parts → ℕ → CommitErr
 commit_error_by publishes.NameTaken draft table version = Attempt (attempts.NameTaken draft)
 commit_error_by publishes.Contended draft table version = Contended version
-commit_error_by publishes.Unknown draft table version = CommitUnknown version
-commit_error_by (publishes.Fault OnFile) draft table version = Attempt (attempts.Read (StoreFault draft))
-commit_error_by (publishes.Fault OnNames) draft table version = Attempt (attempts.Read (StoreFault table))
-commit_error_by publishes.NoMemory draft table version = Attempt (attempts.Read Memory)
+commit_error_by (publishes.Stopped e) draft table version = stop_error e.call e.cause draft table version
 
 -- what an attempt leaves whose change made this successor of the base, and no other
 abbrev pub PublishedLeaves : Parts → (Past → Step → Type 0) → (ℕ → Type 0) → ℕ → Base → Data → Result Committed CommitErr → Past → Past → Type 0
 PublishedLeaves table allows Drawn now base built result old new = (at : At) → IsOn base at → HasVersionLimit (view at.meta) → AttemptLeaves table allows (only built) Drawn now at result old new
-
--- nothing was left, or the new metadata file
-abbrev pub MayLeaveDraft : (ℕ → Type 0) → Parts → List Parts → List Parts → Type 0
-MayLeaveDraft Drawn table old new = (new ≡ old) ⊎ ((id : ℕ) × Drawn id × (new ≡ old ++ draft_at table id ∷ []))
-
--- the new metadata file was left, and where its rename failed the version's place too
-pub record LeavesDraft (Drawn : ℕ → Type 0) (table : Parts) (version : ℕ) (old new : List Parts) : Type 0 where
-  pub id : ℕ
-  pub drawn : Drawn id
-  pub is : (new ≡ old ++ draft_at table id ∷ []) ⊎ (new ≡ old ++ draft_at table id ∷ version_at table version ∷ [])
-
--- what stands in the log's `left` after a commit: new places only after a store failure or want of memory
-abbrev pub CommitLeft : (ℕ → Type 0) → Parts → Result Committed CommitErr → List Parts → List Parts → Type 0
-CommitLeft Drawn table (Ok c) old new = new ≡ old
-CommitLeft Drawn table (Err (Open e)) old new = new ≡ old
-CommitLeft Drawn table (Err (Attempt (attempts.Refused refusal))) old new = new ≡ old
-CommitLeft Drawn table (Err (Attempt (attempts.Conflict place other))) old new = new ≡ old
-CommitLeft Drawn table (Err (Attempt (attempts.NameTaken place))) old new = new ≡ old
-CommitLeft Drawn table (Err (Attempt (attempts.Read (Missing place)))) old new = new ≡ old
-CommitLeft Drawn table (Err (Attempt (attempts.Read (Damaged place where_)))) old new = new ≡ old
-CommitLeft Drawn table (Err (Attempt (attempts.Read (Unsupported place what)))) old new = new ≡ old
-CommitLeft Drawn table (Err (Attempt (attempts.Read (StoreFault place)))) old new = MayLeaveDraft Drawn table old new
-CommitLeft Drawn table (Err (Attempt (attempts.Read Memory))) old new = MayLeaveDraft Drawn table old new
-CommitLeft Drawn table (Err (Contended version)) old new = new ≡ old
-CommitLeft Drawn table (Err (CommitUnknown version)) old new = LeavesDraft Drawn table version old new
-
--- a version is committed exactly where it was published
-abbrev pub commits : Result Committed CommitErr → List ℕ → List ℕ
-commits (Ok (Same version)) committed = committed
-commits (Ok (Published version)) committed = committed ++ version ∷ []
-commits (Err e) committed = committed
-
--- a step that names the new metadata file, whose name a drawn identifier gives
-abbrev pub IsNamingOf : (ℕ → Type 0) → Parts → Step → Type 0
-IsNamingOf Drawn table step = (id : ℕ) × ((version : ℕ) × (Drawn id × IsNaming (draft_at table id) (version_at table version) step))
-
--- how many versions a commit adds to the committed ones
-abbrev pub commit_count : Result Committed CommitErr → ℕ
-commit_count (Ok (Same version)) = 0
-commit_count (Ok (Published version)) = 1
-commit_count (Err e) = 0
-
--- what a commit notes: the log has behind what it had exactly the places that the commit's steps left, and one of a failed step only where the count of faults rose
-abbrev pub CommitNotes : ℕ → ℕ → (ℕ → Type 0) → Parts → Result Committed CommitErr → Log → Log → Past → Past → Type 0
-CommitNotes before now Drawn table result had has = Notes (Rose before now) (IsNamingOf Drawn table) (commit_count result) [] had.left.items has.left.items

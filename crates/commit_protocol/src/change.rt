@@ -1,5 +1,5 @@
 //! A change of a table, as a commit asks for it.
-ghost use Rattle.std.specs.Prelude.{◌≡◌, ◌≤◌, ◌<◌, ◌^◌, [], IfOk, IfErr, OnOk};
+ghost use Rattle.std.specs.Prelude.{◌≡◌, ◌≤◌, ◌<◌, ◌^◌, [], Ok, IfOk, IfErr, OnOk};
 ghost use Rattle.ice_store.specs.Others.{WhereTold};
 ghost use Rattle.ice_store.specs.Since.{Since};
 ghost use Rattle.serde_json.specs.Data.{Data as Tree};
@@ -7,13 +7,16 @@ ghost use Rattle.serde_json.specs.View.{view};
 ghost use Rattle.commit_history.specs.Mannered.{IsMannered};
 ghost use Rattle.commit_history.specs.Runs.{Ran};
 ghost use Rattle.commit_history.specs.Versions.{number_in};
-ghost use Rattle.commit_publish.specs.Stages.{Exactly, InState};
-ghost use Rattle.commit_publish.specs.Leaves.{Halts};
-ghost use Rattle.commit_versions.specs.Opening.{OpenStage};
+ghost use Rattle.commit_publish.specs.Stages.{InState};
+ghost use Rattle.commit_publish.specs.Steps.{Exactly};
+ghost use Rattle.commit_publish.specs.Kinds.{Counts};
+ghost use Rattle.commit_versions.specs.Opening.{OpenStage, OpenMarks};
 ghost use Rattle.commit_protocol.specs.Meanings.{Meanings};
-ghost use Rattle.commit_protocol.specs.Metadata.{metadata_rules};
+ghost use Rattle.commit_protocol.specs.Metadata.{HasMetadataAt, metadata_rules};
+ghost use Rattle.metadata_view.specs.View.{location_of};
+ghost use Rattle.ice_store.specs.Places.{place_in};
 ghost use Rattle.commit_protocol.specs.Attempts.{MakesOf};
-ghost use Rattle.commit_protocol.specs.Causes.{AttemptRose};
+ghost use Rattle.commit_protocol.specs.Kinds.{attempted_kind};
 ghost use Rattle.commit_protocol.specs.declared.errors.AttemptErr.{AttemptErr as Refused};
 
 use crate::errors::AttemptErr;
@@ -37,8 +40,9 @@ pub trait Change<M: Manners> {
     /// what was kept of the base (`seen`).
     ghost meanings: { Self → Self → Meanings };
 
-    /// Builds the change on a base: the metadata `meta` of the version file at `base`. The metadata is given away, so that
-    /// it can be changed in place. `now` is in milliseconds since 1970-01-01 UTC.
+    /// Builds the change on a base: the metadata `meta` that the version file at `base` spelled when it was read. The
+    /// metadata is given away, so that it can be changed in place. `now` is in milliseconds since 1970-01-01 UTC. A store
+    /// call of an attempt only looks at places.
     fn attempt<S: Store<M>, I: Ids>(
         &mut self,
         alloc: Global,
@@ -53,6 +57,8 @@ pub trait Change<M: Manners> {
         requires mannered { IsMannered (metadata_rules table.now (M.allows (S.manners store.old))) }
         requires start { WhereTold (S.past store.old) (InState (OpenStage (number_in table.now) base.now)) }
         requires moment { now < 2 ^ 63 }
+        requires here { place_in (location_of (view meta)) ≡ Ok table.now }
+        requires opened { WhereTold (S.past store.old) (InState (HasMetadataAt table.now base.now (view meta))) }
         ensures told { Since (S.past store.old) (S.past store.new) (Ran (metadata_rules table.now (M.allows (S.manners store.old))) (Exactly []) (InState (OpenStage (number_in table.now) base.now))) }
         ensures built { IfOk result (MakesOf (meanings self.old self.new) (view meta)) }
         ensures seen { OnOk result ((meanings self.old self.new).seen (view meta)) }
@@ -64,7 +70,7 @@ pub trait Change<M: Manners> {
         ensures committed { log.new.committed.items ≡ log.old.committed.items }
         ensures left { log.new.left.items ≡ log.old.left.items }
         ensures manners { S.manners store.new ≡ S.manners store.old }
-        ensures cause { AttemptRose result (S.faults store.old) (S.faults store.new) }
+        ensures cause { Counts (attempted_kind result) (S.faults store.old) (S.faults store.new) }
         ensures later { S.faults store.old ≤ S.faults store.new }
-        ensures halted { Halts result (S.halted store.old) (S.halted store.new) (S.past store.new) };
+        ensures halted { OpenMarks (attempted_kind result) (S.halted store.old) (S.halted store.new) (S.past store.new) };
 }

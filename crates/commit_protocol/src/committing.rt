@@ -1,33 +1,33 @@
 //! A commit: the table is opened, the change asked, and what it built published as the next version.
-ghost use Rattle.std.specs.Prelude.{◌≡◌, ◌≤◌, ◌<◌, ◌+◌, ◌^◌, ℕ, Ok, Err, IfOk, IfErr, IsUtf8};
+ghost use Rattle.std.specs.Prelude.{◌≡◌, ◌≤◌, ◌<◌, ◌+◌, ◌^◌, ◌++◌, Ok, Err, IfOk, IfErr, IsUtf8};
 ghost use Rattle.ice_store.specs.Given.{Gives};
 ghost use Rattle.ice_store.specs.Others.{WhereTold};
-ghost use Rattle.ice_store.specs.Places.{Parts, place_in};
+ghost use Rattle.ice_store.specs.Places.{place_in};
 ghost use Rattle.ice_store.specs.Since.{Since};
 ghost use Rattle.serde_json.specs.View.{view};
 ghost use Rattle.table_metadata.specs.Edits.{HasVersionLimit};
 ghost use Rattle.metadata_view.specs.View.{location_of};
 ghost use Rattle.commit_history.specs.Mannered.{IsMannered};
 ghost use Rattle.commit_history.specs.Versions.{number_in};
-ghost use Rattle.commit_publish.specs.Leaves.{Halts};
+ghost use Rattle.commit_publish.specs.Kinds.{Counts, Marks};
 ghost use Rattle.commit_publish.specs.Stages.{Aim, Creating, InState};
 ghost use Rattle.commit_versions.specs.Latest.{IsBaseNumber};
-ghost use Rattle.commit_versions.specs.Opening.{OpenStage, OpenFaultAt};
+ghost use Rattle.commit_versions.specs.Opening.{OpenStage, OpenFaultAt, FileIs};
 ghost use Rattle.commit_versions.specs.declared.types.OpenErr.{OpenErr as TheOpenErr};
 ghost use Rattle.commit_protocol.specs.Attempts.{TellsLimit, AttemptLeaves, CommitLeaves};
-ghost use Rattle.commit_protocol.specs.Causes.{CommitRose};
-ghost use Rattle.commit_protocol.specs.Failures.{IsFaultOf, IsUnknownEnd, TellsFault, fault_at, unknown_at};
+ghost use Rattle.commit_protocol.specs.Ends.{CommitWorks, DrawsBy, IsThat, LeavesBy, PublishedWorks, Works};
+ghost use Rattle.commit_protocol.specs.Kinds.{end_of, kind_of};
 ghost use Rattle.commit_protocol.specs.Metadata.{IsMetadata, metadata_rules};
 ghost use Rattle.commit_protocol.specs.Promises.{StopsHavePrefix, StopsHaveFiles, Succeeds};
-ghost use Rattle.commit_protocol.specs.Verdicts.{IsNobody, IsIdle, IsCaused, IsExactly};
-ghost use Rattle.commit_protocol.specs.Written.{IsOn, IsWritten, IsUnwritten, CommitLeft, CommitNotes, PublishedLeaves, commits, commit_error_by, version_at};
+ghost use Rattle.commit_protocol.specs.Verdicts.{IsNobody, IsCaused, IsExactly};
+ghost use Rattle.commit_protocol.specs.Written.{IsOn, IsWritten, IsUnwritten, PublishedLeaves, commit_error_by, stop_error, version_at};
 
 use crate::change::{Built, Change};
 use crate::errors::{AttemptErr, CommitErr, Committed};
 use crate::opening::{At, Metadata, open_table};
-use commit_publish::{FailedCall, Log, PublishErr, Route, publish_version};
+use commit_publish::{Log, PublishCall, PublishErr, Route, StepErr, publish_version};
 use commit_versions::{FILE_LIMIT, draft_place, version_place, version_text};
-use ice_store::{Bytes, Ids, Manners, Place, ReadErr, Store, Text, What, Where};
+use ice_store::{Bytes, Ids, Manners, Place, ReadErr, Store, StoreErr, Text, What, Where};
 use std::alloc::{AllocError, Global};
 use table_metadata::Meta;
 
@@ -122,6 +122,25 @@ fn draw_up(
     Ok(Written { route, bytes })
 }
 
+// the error of a publish that stopped, at the commit
+fn stop_error(e: StepErr, route: Route, version: u64) -> CommitErr
+    ensures { result ≡ stop_error e.call e.cause route.draft route.table version }
+{
+    if e.cause == StoreErr::Memory {
+        return CommitErr::Attempt(AttemptErr::Read(ReadErr::Memory));
+    }
+    let place = match e.call {
+        PublishCall::Rename | PublishCall::SyncRename => {
+            return CommitErr::CommitUnknown { version };
+        }
+        PublishCall::SyncDraft | PublishCall::SyncRemoval => route.table,
+        PublishCall::Create | PublishCall::Append | PublishCall::Seal | PublishCall::Remove => {
+            route.draft
+        }
+    };
+    CommitErr::Attempt(AttemptErr::Read(ReadErr::StoreFault { place }))
+}
+
 // what a publish's error is at the commit
 fn commit_error(e: PublishErr, route: Route, version: u64) -> CommitErr
     ensures { result ≡ commit_error_by e route.draft route.table version }
@@ -129,14 +148,7 @@ fn commit_error(e: PublishErr, route: Route, version: u64) -> CommitErr
     match e {
         PublishErr::NameTaken => CommitErr::Attempt(AttemptErr::NameTaken { place: route.draft }),
         PublishErr::Contended => CommitErr::Contended { version },
-        PublishErr::Unknown => CommitErr::CommitUnknown { version },
-        PublishErr::Fault(FailedCall::OnFile) => CommitErr::Attempt(AttemptErr::Read(
-            ReadErr::StoreFault { place: route.draft },
-        )),
-        PublishErr::Fault(FailedCall::OnNames) => CommitErr::Attempt(AttemptErr::Read(
-            ReadErr::StoreFault { place: route.table },
-        )),
-        PublishErr::NoMemory => CommitErr::Attempt(AttemptErr::Read(ReadErr::Memory)),
+        PublishErr::Stopped(e) => stop_error(e, route, version),
     }
 }
 
@@ -159,15 +171,14 @@ fn publish_built<M: Manners, S: Store<M>, I: Ids>(
     requires start { WhereTold (S.past store.old) (InState (OpenStage (number_in table.now) base.place)) }
     ensures told { Since (S.past store.old) (S.past store.new) (PublishedLeaves table.now (M.allows (S.manners store.old)) (Gives (I.given ids.old) (I.given ids.new)) now base (view meta) result) }
     ensures manners { S.manners store.new ≡ S.manners store.old }
-    ensures cause { CommitRose result (S.faults store.old) (S.faults store.new) }
+    ensures cause { Counts (kind_of (end_of result)) (S.faults store.old) (S.faults store.new) }
     ensures later { S.faults store.old ≤ S.faults store.new }
-    ensures halted { Halts result (S.halted store.old) (S.halted store.new) (S.past store.new) }
-    ensures committed { log.new.committed.items ≡ commits result log.old.committed.items }
-    ensures left { CommitLeft (Gives (I.given ids.old) (I.given ids.new)) table.now result log.old.left.items log.new.left.items }
-    ensures noted { Since (S.past store.old) (S.past store.new) (CommitNotes (S.faults store.old) (S.faults store.new) (Gives (I.given ids.old) (I.given ids.new)) table.now result log.old log.new) }
+    ensures halted { Marks table.now (kind_of (end_of result)) (S.halted store.old) (S.halted store.new) (S.past store.new) }
+    ensures committed { log.new.committed.items ≡ log.old.committed.items ++ (end_of result).versions }
+    ensures left { LeavesBy (Gives (I.given ids.old) (I.given ids.new)) table.now (kind_of (end_of result)) log.old.left.items log.new.left.items }
+    ensures works { Since (S.past store.old) (S.past store.new) (PublishedWorks table.now (Gives (I.given ids.old) (I.given ids.new)) now base (view meta) result (S.halted store.new) log.old.left.items log.new.left.items) }
+    ensures drawn { DrawsBy (end_of result).versions (end_of result).error (I.given ids.old) (I.given ids.new) }
     ensures unopened { (e : TheOpenErr) → result ≡ Err (CommitErr.Open e) → ⊥ }
-    ensures fault { (place : Parts) → result ≡ fault_at place → IsFaultOf (Gives (I.given ids.old) (I.given ids.new)) table.now place log.old.left.items log.new.left.items }
-    ensures renamed { (v : ℕ) → result ≡ unknown_at v → Since (S.past store.old) (S.past store.new) (IsUnknownEnd (Gives (I.given ids.old) (I.given ids.new)) table.now v log.old.left.items log.new.left.items) }
 {
     let id = ids.next();
     let version = base.version + 1;
@@ -215,17 +226,17 @@ fn attempt_on<M: Manners, S: Store<M>, I: Ids, X: Change<M>>(
     requires metadata { IsMetadata table.now at.text (view at.meta) }
     requires moment { now < 2 ^ 63 }
     requires start { WhereTold (S.past store.old) (InState (OpenStage (number_in table.now) at.place)) }
+    requires read { WhereTold (S.past store.old) (InState (λ d. FileIs at.place at.text d.files)) }
     ensures told { Since (S.past store.old) (S.past store.new) (AttemptLeaves table.now (M.allows (S.manners store.old)) (X.meanings change.old change.new) (Gives (I.given ids.old) (I.given ids.new)) now at result) }
     ensures manners { S.manners store.new ≡ S.manners store.old }
-    ensures cause { CommitRose result (S.faults store.old) (S.faults store.new) }
+    ensures cause { Counts (kind_of (end_of result)) (S.faults store.old) (S.faults store.new) }
     ensures later { S.faults store.old ≤ S.faults store.new }
-    ensures halted { Halts result (S.halted store.old) (S.halted store.new) (S.past store.new) }
-    ensures committed { log.new.committed.items ≡ commits result log.old.committed.items }
-    ensures left { CommitLeft (Gives (I.given ids.old) (I.given ids.new)) table.now result log.old.left.items log.new.left.items }
-    ensures noted { Since (S.past store.old) (S.past store.new) (CommitNotes (S.faults store.old) (S.faults store.new) (Gives (I.given ids.old) (I.given ids.new)) table.now result log.old log.new) }
+    ensures halted { Marks table.now (kind_of (end_of result)) (S.halted store.old) (S.halted store.new) (S.past store.new) }
+    ensures committed { log.new.committed.items ≡ log.old.committed.items ++ (end_of result).versions }
+    ensures left { LeavesBy (Gives (I.given ids.old) (I.given ids.new)) table.now (kind_of (end_of result)) log.old.left.items log.new.left.items }
+    ensures works { Since (S.past store.old) (S.past store.new) (Works (X.meanings change.old change.new).successor (Gives (I.given ids.old) (I.given ids.new)) table.now now (IsThat at) (end_of result) (S.halted store.new) log.old.left.items log.new.left.items) }
+    ensures drawn { DrawsBy (end_of result).versions (end_of result).error (I.given ids.old) (I.given ids.new) }
     ensures unopened { (e : TheOpenErr) → result ≡ Err (CommitErr.Open e) → ⊥ }
-    ensures fault { (place : Parts) → result ≡ fault_at place → TellsFault (X.meanings change.old change.new) (Gives (I.given ids.old) (I.given ids.new)) table.now place log.old.left.items log.new.left.items }
-    ensures renamed { (v : ℕ) → result ≡ unknown_at v → Since (S.past store.old) (S.past store.new) (IsUnknownEnd (Gives (I.given ids.old) (I.given ids.new)) table.now v log.old.left.items log.new.left.items) }
 {
     if !at.meta.has_version_limit() {
         return Err(unreadable_limit(alloc, at.place));
@@ -246,14 +257,15 @@ fn attempt_on<M: Manners, S: Store<M>, I: Ids, X: Change<M>>(
 }
 
 /// Commits a change: opens the table, asks the change, writes what it built under a name of its own, seals it, syncs the
-/// names, renames it to the next version and syncs again. Nothing is published where there is nothing to change. The one
-/// identifier that is drawn names the new metadata file. `Contended` comes where the next version was taken: the new file
-/// is then removed. After a store failure no further store call is made. Where nobody else acts, the answer's exact cause
-/// stands in the files at the entry and in the change's meanings (`alone`), and no other answer has its there (`exactly`).
-/// Whatever a stop leaves, from a whole table on, is whole and has the table after a prefix of the commits (`prefix`,
-/// `files`), and a published version is a successor of the one before it (`successors`). `noted` says exactly which
-/// places the log's `left` has: the new metadata file where a call on it failed (`fault`), and both names of a rename
-/// that failed (`renamed`).
+/// names, renames it to the next version and syncs again. Nothing is published, and no identifier drawn, where there is
+/// nothing to change. The one identifier that is drawn names the new metadata file. `Contended` comes where the next
+/// version was taken: the new file is then removed. After a store failure no further store call is made.
+///
+/// `works` says by the kind of the end which steps were taken, all of them those of one publish of a successor, and which
+/// places the log's `left` has; `halted` which call failed. Where nobody else acts, the answer's exact cause stands in the
+/// files at the entry and in the change's meanings (`alone`), and no other answer has its there (`exactly`). Whatever a
+/// stop leaves, from a whole table on, is whole and has the table after a prefix of the commits (`prefix`, `files`), and a
+/// published version is a successor of the one before it (`successors`).
 pub fn commit<M: Manners, S: Store<M>, I: Ids, X: Change<M>>(
     alloc: Global,
     store: &mut S,
@@ -268,18 +280,16 @@ pub fn commit<M: Manners, S: Store<M>, I: Ids, X: Change<M>>(
     requires start { WhereTold (S.past store.old) (InState (λ d. Creating d.pending)) }
     ensures told { Since (S.past store.old) (S.past store.new) (CommitLeaves table.now (M.allows (S.manners store.old)) (X.meanings change.old change.new) (Gives (I.given ids.old) (I.given ids.new)) now result) }
     ensures manners { S.manners store.new ≡ S.manners store.old }
-    ensures cause { CommitRose result (S.faults store.old) (S.faults store.new) }
+    ensures cause { Counts (kind_of (end_of result)) (S.faults store.old) (S.faults store.new) }
     ensures later { S.faults store.old ≤ S.faults store.new }
-    ensures halted { Halts result (S.halted store.old) (S.halted store.new) (S.past store.new) }
-    ensures committed { log.new.committed.items ≡ commits result log.old.committed.items }
-    ensures left { CommitLeft (Gives (I.given ids.old) (I.given ids.new)) table.now result log.old.left.items log.new.left.items }
-    ensures noted { Since (S.past store.old) (S.past store.new) (CommitNotes (S.faults store.old) (S.faults store.new) (Gives (I.given ids.old) (I.given ids.new)) table.now result log.old log.new) }
+    ensures halted { Marks table.now (kind_of (end_of result)) (S.halted store.old) (S.halted store.new) (S.past store.new) }
+    ensures committed { log.new.committed.items ≡ log.old.committed.items ++ (end_of result).versions }
+    ensures left { LeavesBy (Gives (I.given ids.old) (I.given ids.new)) table.now (kind_of (end_of result)) log.old.left.items log.new.left.items }
+    ensures works { Since (S.past store.old) (S.past store.new) (CommitWorks table.now (M.allows (S.manners store.old)) (X.meanings change.old change.new) (Gives (I.given ids.old) (I.given ids.new)) now result (S.halted store.new) log.old.left.items log.new.left.items) }
+    ensures drawn { DrawsBy (end_of result).versions (end_of result).error (I.given ids.old) (I.given ids.new) }
     ensures opening { (e : TheOpenErr) → result ≡ Err (CommitErr.Open e) → OpenFaultAt table.now e }
-    ensures fault { (place : Parts) → result ≡ fault_at place → TellsFault (X.meanings change.old change.new) (Gives (I.given ids.old) (I.given ids.new)) table.now place log.old.left.items log.new.left.items }
-    ensures renamed { (v : ℕ) → result ≡ unknown_at v → Since (S.past store.old) (S.past store.new) (IsUnknownEnd (Gives (I.given ids.old) (I.given ids.new)) table.now v log.old.left.items log.new.left.items) }
     ensures alone { IsNobody (M.allows (S.manners store.old)) → Since (S.past store.old) (S.past store.new) (IsCaused (X.meanings change.old change.new) (Gives (I.given ids.old) (I.given ids.new)) table.now now result) }
     ensures exactly { Since (S.past store.old) (S.past store.new) (IsExactly (M.allows (S.manners store.old)) (X.meanings change.old change.new) (Gives (I.given ids.old) (I.given ids.new)) table.now now result) }
-    ensures idle { IsNobody (M.allows (S.manners store.old)) → Since (S.past store.old) (S.past store.new) (IsIdle result) }
     ensures prefix { Since (S.past store.old) (S.past store.new) (StopsHavePrefix table.now) }
     ensures files { Since (S.past store.old) (S.past store.new) (StopsHaveFiles table.now) }
     ensures successors { IsNobody (M.allows (S.manners store.old)) → Since (S.past store.old) (S.past store.new) (Succeeds (X.meanings change.old change.new).successor table.now now result) }

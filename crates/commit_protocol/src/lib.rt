@@ -6,8 +6,10 @@
 //!
 //! - `opening`: `open_table`; what it tells is defined in `specs/Metadata.antt`.
 //! - `change`: the trait of changes; what a change means is one record, in `specs/Meanings.antt`.
-//! - `committing`: one attempt; what it tells is defined in `specs/Attempts.antt`.
-//! - `verdict`: the law that each answer has a cause of its own where nobody else acts (`specs/Verdicts.antt`).
+//! - `committing`: one attempt; what it tells is defined in `specs/Attempts.antt` and, by the kind of its end, in
+//!   `specs/Kinds.antt` and `specs/Ends.antt`.
+//! - `verdict`: the law that each answer has a cause of its own where nobody else acts (`specs/Verdicts.antt`), and the law
+//!   of reopening.
 //! - `errors`: the refusals and errors of all of them.
 #![tactic(auto)]
 
@@ -23,4 +25,4 @@ pub use commit_versions::OpenErr;
 pub use committing::commit;
 pub use errors::{AttemptErr, CommitErr, Committed, Other, Refusal};
 pub use opening::{At, Metadata, open_table};
-pub use verdict::{one_commit, one_opening};
+pub use verdict::{one_commit, one_opening, stops_are_reopened};

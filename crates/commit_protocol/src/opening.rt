@@ -7,11 +7,10 @@ ghost use Rattle.commit_history.specs.Mannered.{IsMannered};
 ghost use Rattle.commit_history.specs.Versions.{number_in};
 ghost use Rattle.table_metadata.specs.Spelling.{Spells, HasFault};
 ghost use Rattle.commit_publish.specs.Stages.{Creating, InState};
-ghost use Rattle.commit_publish.specs.Leaves.{Halts};
+ghost use Rattle.commit_publish.specs.Kinds.{Counts};
 ghost use Rattle.commit_versions.specs.Latest.{IsBaseNumber};
-ghost use Rattle.commit_versions.specs.Opening.{OpenFaultAt};
+ghost use Rattle.commit_versions.specs.Opening.{OpenFaultAt, OpenMarks, opening_kind};
 ghost use Rattle.commit_protocol.specs.Metadata.{IsMetadata, ReadsTable, SaysElsewhere, TableLeaves, unsupported, metadata_content, metadata_local, metadata_rules};
-ghost use Rattle.commit_protocol.specs.Causes.{TableRose};
 ghost use Rattle.commit_protocol.specs.Verdicts.{IsNobody, OpenVerdict, IsExactOpening};
 ghost use Rattle.ice_store.specs.History.{replay};
 
@@ -129,10 +128,10 @@ pub fn open_table<M: Manners, S: Store<M>>(
     ensures numbers { IfOk result (λ at. IsBaseNumber (number_in table.now) at.place at.version) }
     ensures metadata { IfOk result (λ at. IsMetadata table.now at.text (view at.meta)) }
     ensures manners { S.manners store.new ≡ S.manners store.old }
-    ensures cause { TableRose result (S.faults store.old) (S.faults store.new) }
+    ensures cause { Counts (opening_kind result) (S.faults store.old) (S.faults store.new) }
     ensures place { IfErr result (λ e. OpenFaultAt table.now e) }
     ensures later { S.faults store.old ≤ S.faults store.new }
-    ensures halted { Halts result (S.halted store.old) (S.halted store.new) (S.past store.new) }
+    ensures halted { OpenMarks (opening_kind result) (S.halted store.old) (S.halted store.new) (S.past store.new) }
     ensures alone { IsNobody (M.allows (S.manners store.old)) → Since (S.past store.old) (S.past store.new) (λ old new. OpenVerdict table.now (replay old).files result) }
     ensures exactly { IsNobody (M.allows (S.manners store.old)) → Since (S.past store.old) (S.past store.new) (λ old new. IsExactOpening table.now result (replay old).files) }
     ensures idle { IsNobody (M.allows (S.manners store.old)) → S.past store.new ≡ S.past store.old }

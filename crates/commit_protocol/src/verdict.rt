@@ -2,6 +2,7 @@
 //! functions here have empty bodies: their contracts are the law.
 ghost use Rattle.std.specs.Prelude.{ℕ, List, Option, Some};
 ghost use Rattle.ice_store.specs.Given.{Gives};
+ghost use Rattle.commit_protocol.specs.Promises.{ReopensOpened};
 ghost use Rattle.commit_protocol.specs.Verdicts.{IsOneOpening, IsOneCommit, IsDecided};
 
 use crate::change::Change;
@@ -17,4 +18,10 @@ pub fn one_opening(table: &Place)
 pub fn one_commit<M: Manners, X: Change<M>>(table: &Place, change: &X)
     ensures { (now : ℕ) (before : Option (List ℕ)) (values : List ℕ) → IsDecided (X.meanings change.now change.now)
         → IsOneCommit table.now now (X.meanings change.now change.now) (Gives before (Some values)) }
+{}
+
+/// Reopening after a stop: what a stop of a steady history leaves is opened as the table after a prefix of the commits that
+/// holds every acknowledged one.
+pub fn stops_are_reopened(table: &Place)
+    ensures { ReopensOpened table.now }
 {}
