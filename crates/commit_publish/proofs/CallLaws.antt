@@ -1,5 +1,5 @@
 -- What each store call of an attempt leads to.
-use Rattle.std.proofs.Common.{◌≡◌, inl, inr, ℕ, Bool, true, false, List, [], ◌∷◌, ◌++◌, take, Option, Some, Ok, Err, is_some, append_assoc, refl, sym, ap, ◌∙◌, subst}
+use Rattle.std.proofs.Common.{◌≡◌, inl, inr, ℕ, Bool, true, false, List, [], ◌∷◌, ◌++◌, take, Option, Some, Ok, Err, is_some, append_assoc, append-nil, refl, sym, ap, ◌∙◌, subst}
 use Rattle.ice_store.specs.Places.{Parts}
 use Rattle.ice_store.specs.Files.{is_named}
 use Rattle.ice_store.specs.History.{Disk, replay, later}
@@ -16,9 +16,10 @@ use Rattle.ice_store.specs.declared.store.StoreErr.{StoreErr}
 use Rattle.ice_store.specs.declared.store.StoreErr.TheVariants.{Failed, Memory}
 use Rattle.ice_store.specs.declared.store.Made.{Made}
 use Rattle.ice_store.specs.declared.store.Made.TheVariants.{New, Exists}
-use Rattle.commit_publish.specs.Leaves.{MakeLeaves, Unmade, Unmoved, Undropped}
+use Rattle.commit_publish.specs.Leaves.{MakeLeaves}
 use Rattle.commit_publish.specs.declared.steps.Route.{Route}
-use Rattle.commit_publish.specs.declared.steps.FailedCall.TheVariants.{OnFile, OnNames}
+use Rattle.commit_publish.specs.declared.steps.PublishCall.{PublishCall}
+use Rattle.commit_publish.specs.declared.steps.PublishCall.TheVariants as asked
 use Rattle.ice_store.specs.declared.store.Moved.TheVariants.{Done, Exists as There}
 use Rattle.ice_store.specs.declared.store.Gone.{Gone}
 use Rattle.ice_store.specs.declared.store.Gone.TheVariants.{Done as Away, Absent}
@@ -30,7 +31,8 @@ use Rattle.commit_history.specs.Mannered.{IsMannered}
 use Rattle.commit_history.specs.Runs.{Ran, IsSafe, IsProperStep}
 use Rattle.commit_history.proofs.Stepping.{us}
 use Rattle.commit_history.proofs.Running.{Kept, along_last, ran_then, ran_turned, begins, others_then, reached_run, new_is, idle, does}
-use Rattle.commit_publish.specs.Stages.{Creating, AtRest, Aim, Stage, NoFile, HasDraft, IsTaken, IsLost, InState, IsBased, IsRenamed, IsPublished, Exactly, Begun, BegunFill, Anything, Then, Partly, PartlyOrReaching, fill_plan}
+use Rattle.commit_publish.specs.Stages.{Creating, AtRest, Aim, Stage, NoFile, HasDraft, IsTaken, IsLost, InState, IsBased, IsRenamed, IsPublished}
+use Rattle.commit_publish.specs.Steps.{Exactly, Anything, Behind, StopsAt, IsTakenOf, step_of, steps_before, draft_plan}
 use Rattle.commit_publish.proofs.StageLaws as stages
 
 -- what an attempt works on
@@ -101,19 +103,36 @@ module _ (x : Work) where
   based_of : (M : List Step → Type 0) (K : Past → Type 0) (old now : Past) → RR M K old now → Bs old → Bs now
   based_of M K old now run b = record { steady = steady_of M K old now run b.steady; bytes = run.stays x.route.base x.route.text x.aim.based b.bytes }
 
-  -- with less known
-  pub loose : (plan rest done : List Step) (K : Past → Type 0) (old new : Past) → plan ≡ done ++ rest → RR (Exactly done) K old new → RR (Begun plan) Anything old new
-  loose plan rest done K old new is run = ran_turned x.rules (Exactly done) (Begun plan) K Anything old new run
-      (λ l e. record { rest = rest; is = is ∙ ap (λ (k : List Step). k ++ rest) (sym e) }) (λ here. tt)
+  -- Where a publish of these bytes stops.
 
-  -- with nothing known of the state
-  pub unstaged : (M : List Step → Type 0) (K : Past → Type 0) (old new : Past) → RR M K old new → RR M Anything old new
-  unstaged M K old new run = ran_turned x.rules M M K Anything old new run (λ l m. m) (λ here. tt)
+  -- a part of it behind these steps
+  abbrev pub Stopping : List ℕ → List Step → PublishCall → StoreErr → Past → Past → Type 0
+  Stopping bytes before call cause = RR (Behind before (StopsAt x.route.draft x.route.target bytes call cause)) Anything
 
-  -- steps begun behind others
-  pub behind : (first plan done rest : List Step) (K : Past → Type 0) (old new : Past) → plan ≡ done ++ rest → RR (Exactly (first ++ done)) K old new → RR (Then first (Begun plan)) Anything old new
-  behind first plan done rest K old new is run = ran_turned x.rules (Exactly (first ++ done)) (Then first (Begun plan)) K Anything old new run
-      (λ l e. record { rest = done; is = e; then = record { rest = rest; is = is } }) (λ here. tt)
+  takes_none : (step : Step) → IsTakenOf step []
+  takes_none (Create p) = inl refl
+  takes_none (Append p more) = inl refl
+  takes_none (Seal p) = inl refl
+  takes_none (Rename p q) = inl refl
+  takes_none (Remove p) = inl refl
+  takes_none SyncNames = inl refl
+
+  module _ (bytes : List ℕ) (before done : List Step) (call : PublishCall) (is : steps_before x.route.draft x.route.target bytes call ≡ before ++ done) (K : Past → Type 0) (old new : Past) where
+    reaches : (l : List Step) → l ≡ done → before ++ l ≡ steps_before x.route.draft x.route.target bytes call
+    reaches l e = ap (λ (z : List Step). before ++ z) e ∙ sym is
+
+    stops_at : (cause : StoreErr) (l : List Step) → l ≡ done → StopsAt x.route.draft x.route.target bytes call cause (before ++ l)
+    stops_at Failed l e = ([], takes_none (step_of x.route.draft x.route.target bytes call), reaches l e ∙ sym (append-nil (steps_before x.route.draft x.route.target bytes call)))
+    stops_at Memory l e = reaches l e
+
+    -- the call took nothing
+    pub stops : (cause : StoreErr) → RR (Exactly done) K old new → Stopping bytes before call cause old new
+    stops cause run = ran_turned x.rules (Exactly done) (Behind before (StopsAt x.route.draft x.route.target bytes call cause)) K Anything old new run (stops_at cause) (λ here. tt)
+
+    -- the failed call took these steps
+    pub stops_with : (taken : List Step) → IsTakenOf (step_of x.route.draft x.route.target bytes call) taken → RR (Exactly (done ++ taken)) K old new → Stopping bytes before call Failed old new
+    stops_with taken one run = ran_turned x.rules (Exactly (done ++ taken)) (Behind before (StopsAt x.route.draft x.route.target bytes call Failed)) K Anything old new run
+        (λ l e. (taken, one, ap (λ (z : List Step). before ++ z) e ∙ sym (append_assoc before done taken) ∙ ap (λ (z : List Step). z ++ taken) (sym is))) (λ here. tt)
 
   -- one run after another
   module _ (old mid new : Past) where
@@ -121,19 +140,12 @@ module _ (x : Work) where
     join_exact first second K L = ran_then x.rules (Exactly first) (Exactly second) (Exactly (first ++ second)) K L
         (λ l k e f. ap (λ (z : List Step). z ++ k) e ∙ ap (λ (z : List Step). first ++ z) f) old mid new
 
-    pub join_then : (first : List Step) (P : List Step → Type 0) (K : Past → Type 0) → RR (Exactly first) K old mid → RR P Anything mid new → RR (Then first P) Anything old new
-    join_then first P K = ran_then x.rules (Exactly first) P (Then first P) K Anything
-        (λ l k e b. record { rest = k; is = ap (λ (z : List Step). z ++ k) e; then = b }) old mid new
+    pub join_behind : (first : List Step) (P : List Step → Type 0) (K L : Past → Type 0) → RR (Exactly first) K old mid → RR (Behind first P) L mid new → RR P L old new
+    join_behind first P K L = ran_then x.rules (Exactly first) (Behind first P) P K L (λ l k e b. subst (λ (z : List Step). P (z ++ k)) (sym e) b) old mid new
 
     pub join_published : (first second : List Step) (K : Past → Type 0) → RR (Exactly first) K old mid → RR (Exactly second) (IsPublished x.rules.reading.number x.route.text x.bytes (Bs mid)) mid new → RR (Exactly (first ++ second)) (IsPublished x.rules.reading.number x.route.text x.bytes (Bs old)) old new
     join_published first second K a b = ran_turned x.rules (Exactly (first ++ second)) (Exactly (first ++ second)) (IsPublished x.rules.reading.number x.route.text x.bytes (Bs mid)) (IsPublished x.rules.reading.number x.route.text x.bytes (Bs old)) old new
         (join_exact first second K (IsPublished x.rules.reading.number x.route.text x.bytes (Bs mid)) a b) (λ l e. e) (λ c. (c.0, λ b. c.1 (based_of (Exactly first) K old mid a b)))
-
-  pub as_partly : (M : List Step → Type 0) (old new : Past) → ((l : List Step) → M l → Partly x.route x.bytes l) → RR M Anything old new → RR (Partly x.route x.bytes) Anything old new
-  as_partly M old new turn run = ran_turned x.rules M (Partly x.route x.bytes) Anything Anything old new run turn (λ h. h)
-
-  pub as_any : (M : List Step → Type 0) (old new : Past) → ((l : List Step) → M l → PartlyOrReaching x.route x.bytes l) → RR M Anything old new → RR (PartlyOrReaching x.route x.bytes) Anything old new
-  as_any M old new turn run = ran_turned x.rules M (PartlyOrReaching x.route x.bytes) Anything Anything old new run turn (λ h. h)
 
   module _ (old now new : Past) where
     -- one call from a stage
@@ -173,13 +185,13 @@ module _ (x : Work) where
     create_ok New run told = create_new run told
     create_ok Exists run told = create_exists run told
 
-    pub create_err : (e : StoreErr) → RR (Exactly []) K0 old now → Answered x.rules.allows now (Some new) (CreateAnswer x.route.draft (Err e)) → RR (Unmade x.route.draft e) Anything old new
-    create_err Memory run told = unstaged (Exactly []) K0 old new (still [] K0 k0 run (CreateAnswer x.route.draft (Err Memory)) told told.answer)
-    create_err Failed run told = elim told.answer [
-      | inl nothing ↦ loose (Create x.route.draft ∷ []) (Create x.route.draft ∷ []) [] K0 old new refl (still [] K0 k0 run (CreateAnswer x.route.draft (Err Failed)) told nothing)
+    pub create_err : (bytes : List ℕ) (e : StoreErr) → RR (Exactly []) K0 old now → Answered x.rules.allows now (Some new) (CreateAnswer x.route.draft (Err e)) → Stopping bytes [] asked.Create e old new
+    create_err bytes Memory run told = stops bytes [] [] asked.Create refl K0 old new Memory (still [] K0 k0 run (CreateAnswer x.route.draft (Err Memory)) told told.answer)
+    create_err bytes Failed run told = elim told.answer [
+      | inl nothing ↦ stops bytes [] [] asked.Create refl K0 old new Failed (still [] K0 k0 run (CreateAnswer x.route.draft (Err Failed)) told nothing)
       | inr one ↦
           let at = here [] K0 k0 run (CreateAnswer x.route.draft (Err Failed)) told in
-          loose (Create x.route.draft ∷ []) [] (Create x.route.draft ∷ []) (KD Creating false []) old new refl
+          stops_with bytes [] [] asked.Create refl (KD Creating false []) old new (Create x.route.draft ∷ []) (inr refl)
           (does_step [] K0 (KD Creating false []) k0 run (CreateAnswer x.route.draft (Err Failed)) told (Create x.route.draft) one.1 (one.0, x.aim.plain)
           (λ t. stages.create_keeps x.rules x.ruled x.localized x.mannered x.route x.bytes x.aim told.reached t one.0 at)
           (λ t. stages.create_leads x.rules x.ruled x.localized x.mannered x.route x.bytes x.aim told.reached t one.0 at))
@@ -200,24 +212,16 @@ module _ (x : Work) where
       pub append_ok : Answered x.rules.allows now (Some new) (AppendAnswer x.route.draft x.bytes (Ok tt)) → RR (Exactly (Append x.route.draft x.bytes ∷ [])) (KD Creating false x.bytes) old new
       append_ok told = appends x.bytes (AppendAnswer x.route.draft x.bytes (Ok tt)) told told.answer
 
-      -- maybe a part of the bytes
-      part : (n : ℕ) (rest done : List Step) (K : Past → Type 0) → (Append x.route.draft (take n x.bytes) ∷ []) ≡ done ++ rest → RR (Exactly done) K old new → RR (BegunFill x.route.draft x.bytes) Anything old new
-      part n rest done K is run = ran_turned x.rules (Exactly done) (BegunFill x.route.draft x.bytes) K Anything old new run
-          (λ l e. record { count = n; begun = inl (record { rest = rest; is = is ∙ ap (λ (k : List Step). k ++ rest) (sym e) }) }) (λ here. tt)
-
-      pub append_err : (e : StoreErr) → Answered x.rules.allows now (Some new) (AppendAnswer x.route.draft x.bytes (Err e)) → RR (BegunFill x.route.draft x.bytes) Anything old new
-      append_err Memory told = part 0 (Append x.route.draft (take 0 x.bytes) ∷ []) [] (KD Creating false []) refl (still [] (KD Creating false []) (kd false []) run (AppendAnswer x.route.draft x.bytes (Err Memory)) told told.answer)
+      pub append_err : (e : StoreErr) → Answered x.rules.allows now (Some new) (AppendAnswer x.route.draft x.bytes (Err e)) → Stopping x.bytes (Create x.route.draft ∷ []) asked.Append e old new
+      append_err Memory told = stops x.bytes (Create x.route.draft ∷ []) [] asked.Append refl (KD Creating false []) old new Memory (still [] (KD Creating false []) (kd false []) run (AppendAnswer x.route.draft x.bytes (Err Memory)) told told.answer)
       append_err Failed told = elim told.answer [
-        | inl nothing ↦ part 0 (Append x.route.draft (take 0 x.bytes) ∷ []) [] (KD Creating false []) refl (still [] (KD Creating false []) (kd false []) run (AppendAnswer x.route.draft x.bytes (Err Failed)) told nothing)
-        | inr one ↦ part one.0 [] (Append x.route.draft (take one.0 x.bytes) ∷ []) (KD Creating false (take one.0 x.bytes)) refl (appends (take one.0 x.bytes) (AppendAnswer x.route.draft x.bytes (Err Failed)) told one.1)
+        | inl nothing ↦ stops x.bytes (Create x.route.draft ∷ []) [] asked.Append refl (KD Creating false []) old new Failed (still [] (KD Creating false []) (kd false []) run (AppendAnswer x.route.draft x.bytes (Err Failed)) told nothing)
+        | inr one ↦ stops_with x.bytes (Create x.route.draft ∷ []) [] asked.Append refl (KD Creating false (take one.0 x.bytes)) old new (Append x.route.draft (take one.0 x.bytes) ∷ []) (inr (one.0, refl))
+            (appends (take one.0 x.bytes) (AppendAnswer x.route.draft x.bytes (Err Failed)) told one.1)
       ]
 
-    -- a filling that was begun
-    pub filling : RR (Begun (fill_plan x.route.draft x.bytes)) Anything old new → RR (BegunFill x.route.draft x.bytes) Anything old new
-    filling run = ran_turned x.rules (Begun (fill_plan x.route.draft x.bytes)) (BegunFill x.route.draft x.bytes) Anything Anything old new run (λ l b. record { count = 0; begun = inr b }) (λ h. h)
-
     -- a call of which only failures and the step are told
-    module _ (done rest : List Step) (step : Step) (K L : Past → Type 0) (kept : Kp K) (run : RR (Exactly done) K old now)
+    module _ (done : List Step) (step : Step) (K L : Past → Type 0) (kept : Kp K) (run : RR (Exactly done) K old now)
         (proper : (past : Past) → K past → IsProperStep x.rules.reading.number step (replay past))
         (keeps : (past : Past) (t : ℕ) → K past → St past → Steady x.rules.reading (standing_after x.rules.reading.number (standing x.rules.reading.number past) (us step t)))
         (leads : (past : Past) (t : ℕ) → K past → L (later past (us step t ∷ []))) where
@@ -229,11 +233,12 @@ module _ (x : Work) where
       plain_ok : Answered x.rules.allows now (Some new) (PlainAnswer step (Ok tt)) → RR (Exactly (done ++ step ∷ [])) L old new
       plain_ok told = steps_on (PlainAnswer step (Ok tt)) told told.answer
 
-      plain_err : (e : StoreErr) → Answered x.rules.allows now (Some new) (PlainAnswer step (Err e)) → RR (Begun (done ++ (step ∷ rest))) Anything old new
-      plain_err Memory told = loose (done ++ (step ∷ rest)) (step ∷ rest) done K old new refl (still done K kept run (PlainAnswer step (Err Memory)) told told.answer)
-      plain_err Failed told = elim told.answer [
-        | inl nothing ↦ loose (done ++ (step ∷ rest)) (step ∷ rest) done K old new refl (still done K kept run (PlainAnswer step (Err Failed)) told nothing)
-        | inr one ↦ loose (done ++ (step ∷ rest)) rest (done ++ step ∷ []) L old new (sym (append_assoc done (step ∷ []) rest)) (steps_on (PlainAnswer step (Err Failed)) told one)
+      plain_err : (before : List Step) (call : PublishCall) → steps_before x.route.draft x.route.target x.bytes call ≡ before ++ done → IsTakenOf (step_of x.route.draft x.route.target x.bytes call) (step ∷ [])
+          → (e : StoreErr) → Answered x.rules.allows now (Some new) (PlainAnswer step (Err e)) → Stopping x.bytes before call e old new
+      plain_err before call is takes Memory told = stops x.bytes before done call is K old new Memory (still done K kept run (PlainAnswer step (Err Memory)) told told.answer)
+      plain_err before call is takes Failed told = elim told.answer [
+        | inl nothing ↦ stops x.bytes before done call is K old new Failed (still done K kept run (PlainAnswer step (Err Failed)) told nothing)
+        | inr one ↦ stops_with x.bytes before done call is L old new (step ∷ []) takes (steps_on (PlainAnswer step (Err Failed)) told one)
       ]
 
     seal_keeps : (past : Past) (t : ℕ) → KD Creating false x.bytes past → St past → Steady x.rules.reading (standing_after x.rules.reading.number (standing x.rules.reading.number past) (us (Seal x.route.draft) t))
@@ -244,21 +249,25 @@ module _ (x : Work) where
 
     module _ (run : RR (Exactly (Append x.route.draft x.bytes ∷ [])) (KD Creating false x.bytes) old now) where
       pub seal_ok : Answered x.rules.allows now (Some new) (PlainAnswer (Seal x.route.draft) (Ok tt)) → RR (Exactly (Append x.route.draft x.bytes ∷ Seal x.route.draft ∷ [])) (KD Creating true x.bytes) old new
-      seal_ok = plain_ok (Append x.route.draft x.bytes ∷ []) [] (Seal x.route.draft) (KD Creating false x.bytes) (KD Creating true x.bytes) (kd false x.bytes) run (λ past at. open_of false x.bytes past refl at) seal_keeps
+      seal_ok = plain_ok (Append x.route.draft x.bytes ∷ []) (Seal x.route.draft) (KD Creating false x.bytes) (KD Creating true x.bytes) (kd false x.bytes) run (λ past at. open_of false x.bytes past refl at) seal_keeps
           (λ past t at. stages.seal_leads x.rules x.ruled x.localized x.mannered x.route x.bytes x.aim past t x.bytes at)
 
-      pub seal_err : (e : StoreErr) → Answered x.rules.allows now (Some new) (PlainAnswer (Seal x.route.draft) (Err e)) → RR (BegunFill x.route.draft x.bytes) Anything old new
-      seal_err e told = filling (plain_err (Append x.route.draft x.bytes ∷ []) (SyncNames ∷ []) (Seal x.route.draft) (KD Creating false x.bytes) (KD Creating true x.bytes) (kd false x.bytes) run (λ past at. open_of false x.bytes past refl at) seal_keeps
-          (λ past t at. stages.seal_leads x.rules x.ruled x.localized x.mannered x.route x.bytes x.aim past t x.bytes at) e told)
+      pub seal_err : (e : StoreErr) → Answered x.rules.allows now (Some new) (PlainAnswer (Seal x.route.draft) (Err e)) → Stopping x.bytes (Create x.route.draft ∷ []) asked.Seal e old new
+      seal_err = plain_err (Append x.route.draft x.bytes ∷ []) (Seal x.route.draft) (KD Creating false x.bytes) (KD Creating true x.bytes) (kd false x.bytes) run (λ past at. open_of false x.bytes past refl at) seal_keeps
+          (λ past t at. stages.seal_leads x.rules x.ruled x.localized x.mannered x.route x.bytes x.aim past t x.bytes at) (Create x.route.draft ∷ []) asked.Seal refl (inr refl)
 
     module _ (run : RR (Exactly (Append x.route.draft x.bytes ∷ Seal x.route.draft ∷ [])) (KD Creating true x.bytes) old now) where
-      pub sync_ok : Answered x.rules.allows now (Some new) (PlainAnswer SyncNames (Ok tt)) → RR (Exactly (fill_plan x.route.draft x.bytes)) (KD AtRest true x.bytes) old new
-      sync_ok = plain_ok (Append x.route.draft x.bytes ∷ Seal x.route.draft ∷ []) [] SyncNames (KD Creating true x.bytes) (KD AtRest true x.bytes) (kd true x.bytes) run (λ past at. tt) (sync_keeps (KD Creating true x.bytes))
+      sync_ok : Answered x.rules.allows now (Some new) (PlainAnswer SyncNames (Ok tt)) → RR (Exactly (Append x.route.draft x.bytes ∷ Seal x.route.draft ∷ SyncNames ∷ [])) (KD AtRest true x.bytes) old new
+      sync_ok = plain_ok (Append x.route.draft x.bytes ∷ Seal x.route.draft ∷ []) SyncNames (KD Creating true x.bytes) (KD AtRest true x.bytes) (kd true x.bytes) run (λ past at. tt) (sync_keeps (KD Creating true x.bytes))
           (λ past t at. stages.sync_leads x.rules x.ruled x.localized x.mannered x.route x.bytes x.aim past t x.bytes at)
 
-      pub sync_err : (e : StoreErr) → Answered x.rules.allows now (Some new) (PlainAnswer SyncNames (Err e)) → RR (BegunFill x.route.draft x.bytes) Anything old new
-      sync_err e told = filling (plain_err (Append x.route.draft x.bytes ∷ Seal x.route.draft ∷ []) [] SyncNames (KD Creating true x.bytes) (KD AtRest true x.bytes) (kd true x.bytes) run (λ past at. tt) (sync_keeps (KD Creating true x.bytes))
-          (λ past t at. stages.sync_leads x.rules x.ruled x.localized x.mannered x.route x.bytes x.aim past t x.bytes at) e told)
+      pub filled : Answered x.rules.allows now (Some new) (PlainAnswer SyncNames (Ok tt)) → RR (λ steps. Create x.route.draft ∷ steps ≡ draft_plan x.route.draft x.bytes) (KD AtRest true x.bytes) old new
+      filled told = ran_turned x.rules (Exactly (Append x.route.draft x.bytes ∷ Seal x.route.draft ∷ SyncNames ∷ [])) (λ steps. Create x.route.draft ∷ steps ≡ draft_plan x.route.draft x.bytes) (KD AtRest true x.bytes) (KD AtRest true x.bytes) old new (sync_ok told)
+          (λ l e. ap (λ (z : List Step). Create x.route.draft ∷ z) e) (λ here. here)
+
+      pub sync_err : (e : StoreErr) → Answered x.rules.allows now (Some new) (PlainAnswer SyncNames (Err e)) → Stopping x.bytes (Create x.route.draft ∷ []) asked.SyncDraft e old new
+      sync_err = plain_err (Append x.route.draft x.bytes ∷ Seal x.route.draft ∷ []) SyncNames (KD Creating true x.bytes) (KD AtRest true x.bytes) (kd true x.bytes) run (λ past at. tt) (sync_keeps (KD Creating true x.bytes))
+          (λ past t at. stages.sync_leads x.rules x.ruled x.localized x.mannered x.route x.bytes x.aim past t x.bytes at) (Create x.route.draft ∷ []) asked.SyncDraft refl (inr refl)
 
     -- the rename
     module _ (good : (c : Parts → Option (List ℕ)) → x.rules.reading.good x.bytes c) (run : RR (Exactly []) (KD AtRest true x.bytes) old now) where
@@ -282,32 +291,22 @@ module _ (x : Work) where
           ran_turned x.rules (Exactly []) (Exactly []) (KD AtRest true x.bytes) KT old new after (λ l e. e)
           (λ k. record { pending = k.pending; last_or_taken = k.last_or_taken; file = record { stands = k.file; taken = there } })
 
-      pub rename_err : (e : StoreErr) → Answered x.rules.allows now (Some new) (RenameAnswer x.route.draft x.route.target (Err e)) → RR (Unmoved x.route OnFile e) Anything old new
-      rename_err Memory told = unstaged (Exactly []) (KD AtRest true x.bytes) old new (still [] (KD AtRest true x.bytes) (kr true x.bytes) run (RenameAnswer x.route.draft x.route.target (Err Memory)) told told.answer)
+      pub rename_err : (e : StoreErr) → Answered x.rules.allows now (Some new) (RenameAnswer x.route.draft x.route.target (Err e)) → Stopping x.bytes (draft_plan x.route.draft x.bytes) asked.Rename e old new
+      rename_err Memory told = stops x.bytes (draft_plan x.route.draft x.bytes) [] asked.Rename refl (KD AtRest true x.bytes) old new Memory (still [] (KD AtRest true x.bytes) (kr true x.bytes) run (RenameAnswer x.route.draft x.route.target (Err Memory)) told told.answer)
       rename_err Failed told = elim told.answer [
-        | inl nothing ↦ loose (Rename x.route.draft x.route.target ∷ []) (Rename x.route.draft x.route.target ∷ []) [] (KD AtRest true x.bytes) old new refl (still [] (KD AtRest true x.bytes) (kr true x.bytes) run (RenameAnswer x.route.draft x.route.target (Err Failed)) told nothing)
-        | inr one ↦ loose (Rename x.route.draft x.route.target ∷ []) [] (Rename x.route.draft x.route.target ∷ []) (IsRenamed x.rules.reading.number x.route.text x.bytes (Bs old)) old new refl (moves (RenameAnswer x.route.draft x.route.target (Err Failed)) told one.0 one.1)
+        | inl nothing ↦ stops x.bytes (draft_plan x.route.draft x.bytes) [] asked.Rename refl (KD AtRest true x.bytes) old new Failed (still [] (KD AtRest true x.bytes) (kr true x.bytes) run (RenameAnswer x.route.draft x.route.target (Err Failed)) told nothing)
+        | inr one ↦ stops_with x.bytes (draft_plan x.route.draft x.bytes) [] asked.Rename refl (IsRenamed x.rules.reading.number x.route.text x.bytes (Bs old)) old new (Rename x.route.draft x.route.target ∷ []) (inr refl)
+            (moves (RenameAnswer x.route.draft x.route.target (Err Failed)) told one.0 one.1)
       ]
 
     module _ (run : RR (Exactly (Rename x.route.draft x.route.target ∷ [])) (IsRenamed x.rules.reading.number x.route.text x.bytes (Bs old)) old now) where
       pub publish_ok : Answered x.rules.allows now (Some new) (PlainAnswer SyncNames (Ok tt)) → RR (Exactly (Rename x.route.draft x.route.target ∷ SyncNames ∷ [])) (IsPublished x.rules.reading.number x.route.text x.bytes (Bs old)) old new
-      publish_ok = plain_ok (Rename x.route.draft x.route.target ∷ []) [] SyncNames (IsRenamed x.rules.reading.number x.route.text x.bytes (Bs old)) (IsPublished x.rules.reading.number x.route.text x.bytes (Bs old)) (k_renamed (Bs old)) run (λ past at. tt) (sync_keeps (IsRenamed x.rules.reading.number x.route.text x.bytes (Bs old)))
+      publish_ok = plain_ok (Rename x.route.draft x.route.target ∷ []) SyncNames (IsRenamed x.rules.reading.number x.route.text x.bytes (Bs old)) (IsPublished x.rules.reading.number x.route.text x.bytes (Bs old)) (k_renamed (Bs old)) run (λ past at. tt) (sync_keeps (IsRenamed x.rules.reading.number x.route.text x.bytes (Bs old)))
           (λ past t at. stages.publish_leads x.rules x.ruled x.localized x.mannered x.route x.bytes x.aim past t (Bs old) at)
 
-      renamed_leads : (past : Past) (t : ℕ) → IsRenamed x.rules.reading.number x.route.text x.bytes (Bs old) past → IsPublished x.rules.reading.number x.route.text x.bytes (Bs old) (later past (us SyncNames t ∷ []))
-      renamed_leads past t at = stages.publish_leads x.rules x.ruled x.localized x.mannered x.route x.bytes x.aim past t (Bs old) at
-
-      unsynced_rename : (e : StoreErr) (told : Answered x.rules.allows now (Some new) (PlainAnswer SyncNames (Err e))) → told.ours ≡ [] → RR (Then (Rename x.route.draft x.route.target ∷ []) (Begun (SyncNames ∷ []))) Anything old new
-      unsynced_rename e told nothing = behind (Rename x.route.draft x.route.target ∷ []) (SyncNames ∷ []) [] (SyncNames ∷ []) (IsRenamed x.rules.reading.number x.route.text x.bytes (Bs old)) old new refl
-          (still (Rename x.route.draft x.route.target ∷ []) (IsRenamed x.rules.reading.number x.route.text x.bytes (Bs old)) (k_renamed (Bs old)) run (PlainAnswer SyncNames (Err e)) told nothing)
-
-      pub publish_err : (e : StoreErr) → Answered x.rules.allows now (Some new) (PlainAnswer SyncNames (Err e)) → RR (Unmoved x.route OnNames e) Anything old new
-      publish_err Memory told = unsynced_rename Memory told told.answer
-      publish_err Failed told = elim told.answer [
-        | inl nothing ↦ unsynced_rename Failed told nothing
-        | inr one ↦ behind (Rename x.route.draft x.route.target ∷ []) (SyncNames ∷ []) (SyncNames ∷ []) [] (IsPublished x.rules.reading.number x.route.text x.bytes (Bs old)) old new refl
-            (steps_on (Rename x.route.draft x.route.target ∷ []) [] SyncNames (IsRenamed x.rules.reading.number x.route.text x.bytes (Bs old)) (IsPublished x.rules.reading.number x.route.text x.bytes (Bs old)) (k_renamed (Bs old)) run (λ past at. tt) (sync_keeps (IsRenamed x.rules.reading.number x.route.text x.bytes (Bs old))) renamed_leads (PlainAnswer SyncNames (Err Failed)) told one)
-      ]
+      pub publish_err : (e : StoreErr) → Answered x.rules.allows now (Some new) (PlainAnswer SyncNames (Err e)) → Stopping x.bytes (draft_plan x.route.draft x.bytes) asked.SyncRename e old new
+      publish_err = plain_err (Rename x.route.draft x.route.target ∷ []) SyncNames (IsRenamed x.rules.reading.number x.route.text x.bytes (Bs old)) (IsPublished x.rules.reading.number x.route.text x.bytes (Bs old)) (k_renamed (Bs old)) run (λ past at. tt) (sync_keeps (IsRenamed x.rules.reading.number x.route.text x.bytes (Bs old)))
+          (λ past t at. stages.publish_leads x.rules x.ruled x.localized x.mannered x.route x.bytes x.aim past t (Bs old) at) (draft_plan x.route.draft x.bytes) asked.SyncRename refl (inr refl)
 
     -- a lost draft is removed
     module _ (never : (files : List Held) (p : Parts) → InReach x.rules.reading files p → ⊥) (run : RR (Exactly []) KT old now) where
@@ -316,11 +315,11 @@ module _ (x : Work) where
           let at = here [] KT kt run A told in
           does_step [] KT KN kt run A told (Remove x.route.draft) one x.aim.plain (λ t steady. stages.remove_keeps x.rules x.ruled x.localized x.mannered x.route x.bytes x.aim told.reached t never at steady) (λ t. stages.remove_leads x.rules x.ruled x.localized x.mannered x.route x.bytes x.aim told.reached t at)
 
-      pub remove_err : (e : StoreErr) → Answered x.rules.allows now (Some new) (RemoveAnswer x.route.draft (Err e)) → RR (Undropped x.route OnFile e) Anything old new
-      remove_err Memory told = unstaged (Exactly []) KT old new (still [] KT kt run (RemoveAnswer x.route.draft (Err Memory)) told told.answer)
+      pub remove_err : (e : StoreErr) → Answered x.rules.allows now (Some new) (RemoveAnswer x.route.draft (Err e)) → Stopping x.bytes (draft_plan x.route.draft x.bytes) asked.Remove e old new
+      remove_err Memory told = stops x.bytes (draft_plan x.route.draft x.bytes) [] asked.Remove refl KT old new Memory (still [] KT kt run (RemoveAnswer x.route.draft (Err Memory)) told told.answer)
       remove_err Failed told = elim told.answer [
-        | inl nothing ↦ loose (Remove x.route.draft ∷ []) (Remove x.route.draft ∷ []) [] KT old new refl (still [] KT kt run (RemoveAnswer x.route.draft (Err Failed)) told nothing)
-        | inr one ↦ loose (Remove x.route.draft ∷ []) [] (Remove x.route.draft ∷ []) KN old new refl (removes (RemoveAnswer x.route.draft (Err Failed)) told one.1)
+        | inl nothing ↦ stops x.bytes (draft_plan x.route.draft x.bytes) [] asked.Remove refl KT old new Failed (still [] KT kt run (RemoveAnswer x.route.draft (Err Failed)) told nothing)
+        | inr one ↦ stops_with x.bytes (draft_plan x.route.draft x.bytes) [] asked.Remove refl KN old new (Remove x.route.draft ∷ []) (inr refl) (removes (RemoveAnswer x.route.draft (Err Failed)) told one.1)
       ]
 
       -- it stands, so it isn't absent
@@ -332,20 +331,11 @@ module _ (x : Work) where
 
     module _ (run : RR (Exactly (Remove x.route.draft ∷ [])) KN old now) where
       pub dropped_ok : Answered x.rules.allows now (Some new) (PlainAnswer SyncNames (Ok tt)) → RR (Exactly (Remove x.route.draft ∷ SyncNames ∷ [])) KL old new
-      dropped_ok = plain_ok (Remove x.route.draft ∷ []) [] SyncNames KN KL kn run (λ past at. tt) (sync_keeps KN) (λ past t at. stages.named_leads x.rules x.ruled x.localized x.mannered x.route x.bytes x.aim past t at)
+      dropped_ok = plain_ok (Remove x.route.draft ∷ []) SyncNames KN KL kn run (λ past at. tt) (sync_keeps KN) (λ past t at. stages.named_leads x.rules x.ruled x.localized x.mannered x.route x.bytes x.aim past t at)
 
-      named_leads : (past : Past) (t : ℕ) → KN past → KL (later past (us SyncNames t ∷ []))
-      named_leads past t at = stages.named_leads x.rules x.ruled x.localized x.mannered x.route x.bytes x.aim past t at
-
-      unsynced : (e : StoreErr) (told : Answered x.rules.allows now (Some new) (PlainAnswer SyncNames (Err e))) → told.ours ≡ [] → RR (Then (Remove x.route.draft ∷ []) (Begun (SyncNames ∷ []))) Anything old new
-      unsynced e told nothing = behind (Remove x.route.draft ∷ []) (SyncNames ∷ []) [] (SyncNames ∷ []) KN old new refl (still (Remove x.route.draft ∷ []) KN kn run (PlainAnswer SyncNames (Err e)) told nothing)
-
-      pub dropped_err : (e : StoreErr) → Answered x.rules.allows now (Some new) (PlainAnswer SyncNames (Err e)) → RR (Undropped x.route OnNames e) Anything old new
-      dropped_err Memory told = unsynced Memory told told.answer
-      dropped_err Failed told = elim told.answer [
-        | inl nothing ↦ unsynced Failed told nothing
-        | inr one ↦ behind (Remove x.route.draft ∷ []) (SyncNames ∷ []) (SyncNames ∷ []) [] KL old new refl (steps_on (Remove x.route.draft ∷ []) [] SyncNames KN KL kn run (λ past at. tt) (sync_keeps KN) named_leads (PlainAnswer SyncNames (Err Failed)) told one)
-      ]
+      pub dropped_err : (e : StoreErr) → Answered x.rules.allows now (Some new) (PlainAnswer SyncNames (Err e)) → Stopping x.bytes (draft_plan x.route.draft x.bytes) asked.SyncRemoval e old new
+      dropped_err = plain_err (Remove x.route.draft ∷ []) SyncNames KN KL kn run (λ past at. tt) (sync_keeps KN) (λ past t at. stages.named_leads x.rules x.ruled x.localized x.mannered x.route x.bytes x.aim past t at)
+          (draft_plan x.route.draft x.bytes) asked.SyncRemoval refl (inr refl)
 
   -- what the calls require
   module _ (old now reached : Past) (acted : Acted x.rules.allows now reached) where

@@ -25,7 +25,8 @@ use Rattle.commit_history.proofs.Stepping.{us, them, each_push, free_outside, cr
 use Rattle.commit_history.proofs.Manners.{unnamed, not_number, rename_rises}
 use Rattle.commit_history.proofs.Running.{Kept}
 use Rattle.commit_publish.specs.declared.steps.Route.{Route}
-use Rattle.commit_publish.specs.Stages.{Creating, AtRest, Aim, Stage, NoFile, HasDraft, IsTaken, IsLost, InState, Holds, IsCommitted, IsRenamed, IsPublished, Anything}
+use Rattle.commit_publish.specs.Stages.{Creating, AtRest, Aim, Stage, NoFile, HasDraft, IsTaken, IsLost, InState, Holds, IsCommitted, IsRenamed, IsPublished}
+use Rattle.commit_publish.specs.Steps.{Anything}
 
 holds_more : (tables part more : Tables) → Holds tables part → Holds (tables ++ more) part
 holds_more tables part more h = record {

@@ -10,8 +10,6 @@ use Rattle.commit_history.specs.Readings.{Rules}
 use Rattle.commit_history.specs.Runs.{Ran}
 use Rattle.commit_publish.specs.Stages.{Creating, AtRest, Stage, HasDraft, IsTaken, IsLost, InState, IsNameTaken, Publishes}
 use Rattle.commit_publish.specs.Steps.{Anything, Exactly, Behind, StopsAt, draft_plan, move_plan, drop_plan, publish_plan, lost_plan}
-use Rattle.commit_publish.specs.declared.steps.PublishCall.{PublishCall}
-use Rattle.commit_publish.specs.declared.steps.PublishCall.TheVariants as calls
 use Rattle.commit_publish.specs.declared.steps.Route.{Route}
 use Rattle.commit_publish.specs.declared.steps.StepErr.{StepErr}
 use Rattle.commit_publish.specs.declared.publish.PublishErr.{PublishErr}

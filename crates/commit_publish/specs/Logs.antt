@@ -1,5 +1,5 @@
 -- What a publish tells besides: the count of faults, the mark of a failed call, and what the log says of it.
-use Rattle.std.specs.Prelude.{◌≡◌, ℕ, List, [], ◌∷◌, ◌++◌, Option, Some, Result, Ok, Err}
+use Rattle.std.specs.Prelude.{◌≡◌, ℕ, List, [], ◌∷◌, Option, Some, Result, Ok, Err}
 use Rattle.ice_store.specs.Places.{Parts}
 use Rattle.ice_store.specs.Others.{WhereTold}
 use Rattle.ice_store.specs.Calls.{Rose, failure_of}

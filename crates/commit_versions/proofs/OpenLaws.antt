@@ -28,7 +28,8 @@ use Rattle.commit_history.proofs.Following.{standing_disk}
 use Rattle.commit_history.proofs.ListingLaws.{listing_version}
 use Rattle.commit_history.proofs.Stepping.{them}
 use Rattle.commit_history.proofs.Running.{Kept, along_last, ran_turned, ran_then, begins, idle, new_is}
-use Rattle.commit_publish.specs.Stages.{Creating, Exactly, Anything, InState}
+use Rattle.commit_publish.specs.Stages.{Creating, InState}
+use Rattle.commit_publish.specs.Steps.{Exactly, Anything}
 use Rattle.commit_versions.specs.Opening.{OpenStage, IsLong, IsBeyond, IsBase, IsText, Listed as WasListed, IsOpened, FindLeaves, ReadLeaves, ReadErrOf, ReadOpened, ReadErrLeaves, FoundStage, FoundLeaves, OpenLeaves, file_limit, version_limit}
 use Rattle.commit_versions.specs.Latest.{IsFound}
 use Rattle.commit_versions.proofs.BeyondLaws.{is_beyond}

@@ -1,5 +1,5 @@
 -- What opening the last version of a table tells (Iceberg table specification, "File System Tables").
-use Rattle.std.specs.Prelude.{◌≡◌, ◌⊎◌, ℕ, ◌+◌, ◌-◌, ◌^◌, ◌<◌, ◌≤◌, Bool, true, false, List, [], ◌∷◌, ◌++◌, length, nat_lt, if◌then◌else◌, Some, Result, Ok, Err}
+use Rattle.std.specs.Prelude.{◌≡◌, ◌⊎◌, ℕ, ◌+◌, ◌-◌, ◌^◌, ◌<◌, ◌≤◌, Bool, true, false, List, [], ◌∷◌, ◌++◌, length, nat_lt, if◌then◌else◌, Option, Some, Result, Ok, Err}
 use Rattle.std.specs.Cmp.Lexicographic.{slice_cmp}
 use Rattle.std.specs.Ordering.{nat_cmp, is_lt}
 use Rattle.ice_store.specs.Places.{Parts, joined}
@@ -195,7 +195,7 @@ module _ (rules : Rules) where
 abbrev pub IsAskedFor : Parts → Parts → Type 0
 IsAskedFor table place = (place ≡ table ++ folder ∷ []) ⊎ (0 < number_in table place)
 
--- a fault of the store is told at a place that an opening may ask for, though not always that of the call that failed
+-- a fault of the store is told at a place that an opening may ask for
 abbrev pub FaultAt : Parts → ReadErr → Type 0
 FaultAt table (Missing place) = Unit {0}
 FaultAt table (Damaged place at) = Unit {0}

@@ -5,10 +5,10 @@ use Rattle.ice_store.specs.Calls.{PlainAnswer, RemoveAnswer, IsSettled}
 use Rattle.ice_store.specs.declared.history.Past.{Past}
 use Rattle.ice_store.specs.declared.history.Step.TheVariants.{Remove, SyncNames}
 use Rattle.ice_store.proofs.SinceLaws.{since_call, since_stands, since_start}
-use Rattle.commit_publish.specs.Stages.{Exactly, Anything}
-use Rattle.commit_publish.specs.Leaves.{Undropped, DropLeaves}
+use Rattle.commit_publish.specs.Steps.{Exactly, draft_plan}
+use Rattle.commit_publish.specs.Leaves.{DropLeaves}
+use Rattle.commit_publish.specs.declared.steps.PublishCall.TheVariants as asked
 use Rattle.commit_publish.specs.declared.steps.StepErr.{StepErr}
-use Rattle.commit_publish.specs.declared.steps.FailedCall.TheVariants.{OnFile, OnNames}
 use Rattle.commit_publish.proofs.CallLaws as calls
 use Rattle.commit_publish.proofs.CallLaws.{RR, K0, KD, KT}
 use Rattle.commit_publish.proofs.Working.{work, never}
@@ -31,8 +31,8 @@ returns-in-Err-clause-told g c =
     let Told0 : Past → Past → Type 0 = RR x (Exactly []) (KT x) in
     let r0 = since_start p0 (KT x) Told0 c.requires.start (λ old here. calls.starts x (KT x) old here) in
     let p1 = g.S.Store.past c.remove.new.self in
-    let told = since_call (may (g.S.Store.manners c.args.store.now)) p0 p0 p1 Told0 (RR x (Undropped x.route OnFile c.in-Err.cause) Anything) (RemoveAnswer x.route.draft (Err c.in-Err.cause)) r0 (c.in-Err.ensures.told) (λ old now new h told. calls.remove_err x old now new (never g.R.TableReading.content x.route.table x.bytes c.requires.narrow) h c.in-Err.cause told) in
-    subst (λ (e : StepErr). Since p0 p1 (DropLeaves x.rules x.route (Err e))) (sym c.on_file.ensures) told
+    let told = since_call (may (g.S.Store.manners c.args.store.now)) p0 p0 p1 Told0 (calls.Stopping x x.bytes (draft_plan x.route.draft x.bytes) asked.Remove c.in-Err.cause) (RemoveAnswer x.route.draft (Err c.in-Err.cause)) r0 (c.in-Err.ensures.told) (λ old now new h told. calls.remove_err x old now new (never g.R.TableReading.content x.route.table x.bytes c.requires.narrow) h c.in-Err.cause told) in
+    subst (λ (e : StepErr). Since p0 p1 (DropLeaves x.rules x.route x.bytes (Err e))) (sym c.stopped.ensures) told
 
 pub returns-in-Ok-sync_names-clause-told : goal.returns-in-Ok-sync_names-clause-told
 returns-in-Ok-sync_names-clause-told g c =
@@ -60,5 +60,5 @@ returns-in-Err-sync_names-clause-told g c =
     let Told1 : Past → Past → Type 0 = RR x (Exactly (Remove x.route.draft ∷ [])) (calls.KN x) in
     let r1 = since_call (may (g.S.Store.manners c.args.store.now)) p0 p0 p1 Told0 Told1 (RemoveAnswer x.route.draft (Ok c.in-Ok.field-0)) r0 (c.in-Ok.ensures.told) (λ old now new h told. calls.remove_ok x old now new (never g.R.TableReading.content x.route.table x.bytes c.requires.narrow) h c.in-Ok.field-0 told) in
     let p2 = g.S.Store.past c.sync_names.new.self in
-    let told = since_call (may (g.S.Store.manners c.args.store.now)) p0 p1 p2 Told1 (RR x (Undropped x.route OnNames c.in-Err-sync_names.cause) Anything) (PlainAnswer SyncNames (Err c.in-Err-sync_names.cause)) r1 (subst (λ m. Answers (may m) p1 p2 (PlainAnswer SyncNames (Err c.in-Err-sync_names.cause))) q1 (c.in-Err-sync_names.ensures.told)) (λ old now new h told. calls.dropped_err x old now new h c.in-Err-sync_names.cause told) in
-    subst (λ (e : StepErr). Since p0 p2 (DropLeaves x.rules x.route (Err e))) (sym c.on_names.ensures) told
+    let told = since_call (may (g.S.Store.manners c.args.store.now)) p0 p1 p2 Told1 (calls.Stopping x x.bytes (draft_plan x.route.draft x.bytes) asked.SyncRemoval c.in-Err-sync_names.cause) (PlainAnswer SyncNames (Err c.in-Err-sync_names.cause)) r1 (subst (λ m. Answers (may m) p1 p2 (PlainAnswer SyncNames (Err c.in-Err-sync_names.cause))) q1 (c.in-Err-sync_names.ensures.told)) (λ old now new h told. calls.dropped_err x old now new h c.in-Err-sync_names.cause told) in
+    subst (λ (e : StepErr). Since p0 p2 (DropLeaves x.rules x.route x.bytes (Err e))) (sym c.stopped-in-Err-sync_names.ensures) told

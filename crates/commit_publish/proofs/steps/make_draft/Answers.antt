@@ -1,10 +1,11 @@
-use Rattle.std.proofs.Common.{[], Ok, Err, sym, subst}
+use Rattle.std.proofs.Common.{ℕ, List, [], Ok, Err, sym, subst}
 use Rattle.ice_store.specs.Since.{Since}
 use Rattle.ice_store.specs.Calls.{CreateAnswer, IsUnmoved}
 use Rattle.ice_store.specs.declared.history.Past.{Past}
 use Rattle.ice_store.proofs.SinceLaws.{since_call, since_stands, since_start}
-use Rattle.commit_publish.specs.Stages.{Exactly, Anything}
-use Rattle.commit_publish.specs.Leaves.{MakeLeaves, Unmade}
+use Rattle.commit_publish.specs.Steps.{Exactly}
+use Rattle.commit_publish.specs.Leaves.{MakeLeaves}
+use Rattle.commit_publish.specs.declared.steps.PublishCall.TheVariants as asked
 use Rattle.commit_publish.specs.declared.steps.StepErr.{StepErr}
 use Rattle.commit_publish.proofs.CallLaws as calls
 use Rattle.commit_publish.proofs.CallLaws.{RR, K0, KD, KT}
@@ -28,8 +29,8 @@ returns-in-Err-clause-told g c =
     let Told0 : Past → Past → Type 0 = RR x (Exactly []) (K0 x) in
     let r0 = since_start p0 (K0 x) Told0 c.requires.start (λ old here. calls.starts x (K0 x) old here) in
     let p1 = g.S.Store.past c.create.new.self in
-    let told = since_call (may (g.S.Store.manners c.args.store.now)) p0 p0 p1 Told0 (RR x (Unmade x.route.draft c.in-Err.cause) Anything) (CreateAnswer x.route.draft (Err c.in-Err.cause)) r0 (c.in-Err.ensures.told) (λ old now new h told. calls.create_err x old now new c.in-Err.cause h told) in
-    subst (λ (e : StepErr). Since p0 p1 (MakeLeaves x.rules x.route (Err e))) (sym c.on_file.ensures) told
+    let told = since_call (may (g.S.Store.manners c.args.store.now)) p0 p0 p1 Told0 (λ old new. (bytes : List ℕ) → calls.Stopping x bytes [] asked.Create c.in-Err.cause old new) (CreateAnswer x.route.draft (Err c.in-Err.cause)) r0 (c.in-Err.ensures.told) (λ old now new h told. λ bytes. calls.create_err x old now new bytes c.in-Err.cause h told) in
+    subst (λ (e : StepErr). Since p0 p1 (MakeLeaves x.rules x.route (Err e))) (sym c.stopped.ensures) told
 
 pub returns-in-Ok-clause-told : goal.returns-in-Ok-clause-told
 returns-in-Ok-clause-told g c =

@@ -6,10 +6,11 @@ use Rattle.ice_store.specs.declared.history.Past.{Past}
 use Rattle.ice_store.specs.declared.history.Step.TheVariants.{Rename, SyncNames}
 use Rattle.ice_store.specs.declared.store.Moved.TheVariants.{Done, Exists as There}
 use Rattle.ice_store.proofs.SinceLaws.{since_call, since_stands, since_start}
-use Rattle.commit_publish.specs.Stages.{AtRest, Exactly, Anything, IsRenamed, IsPublished}
-use Rattle.commit_publish.specs.Leaves.{Unmoved, MoveLeaves}
+use Rattle.commit_publish.specs.Stages.{AtRest, IsRenamed, IsPublished}
+use Rattle.commit_publish.specs.Steps.{Exactly, draft_plan}
+use Rattle.commit_publish.specs.Leaves.{MoveLeaves}
+use Rattle.commit_publish.specs.declared.steps.PublishCall.TheVariants as asked
 use Rattle.commit_publish.specs.declared.steps.StepErr.{StepErr}
-use Rattle.commit_publish.specs.declared.steps.FailedCall.TheVariants.{OnFile, OnNames}
 use Rattle.commit_publish.proofs.CallLaws as calls
 use Rattle.commit_publish.proofs.CallLaws.{RR, K0, KD, KT}
 use Rattle.commit_publish.proofs.Working.{work}
@@ -32,8 +33,8 @@ returns-in-Err-clause-told g c =
     let Told0 : Past → Past → Type 0 = RR x (Exactly []) (KD x AtRest true x.bytes) in
     let r0 = since_start p0 (KD x AtRest true x.bytes) Told0 c.requires.start (λ old here. calls.starts x (KD x AtRest true x.bytes) old here) in
     let p1 = g.S.Store.past c.rename_new.new.self in
-    let told = since_call (may (g.S.Store.manners c.args.store.now)) p0 p0 p1 Told0 (RR x (Unmoved x.route OnFile c.in-Err.cause) Anything) (RenameAnswer x.route.draft x.route.target (Err c.in-Err.cause)) r0 (c.in-Err.ensures.told) (λ old now new h told. calls.rename_err x old now new c.requires.narrow.good h c.in-Err.cause told) in
-    subst (λ (e : StepErr). Since p0 p1 (MoveLeaves x.rules x.route x.bytes (Err e))) (sym c.on_file.ensures) told
+    let told = since_call (may (g.S.Store.manners c.args.store.now)) p0 p0 p1 Told0 (calls.Stopping x x.bytes (draft_plan x.route.draft x.bytes) asked.Rename c.in-Err.cause) (RenameAnswer x.route.draft x.route.target (Err c.in-Err.cause)) r0 (c.in-Err.ensures.told) (λ old now new h told. calls.rename_err x old now new c.requires.narrow.good h c.in-Err.cause told) in
+    subst (λ (e : StepErr). Since p0 p1 (MoveLeaves x.rules x.route x.bytes (Err e))) (sym c.stopped.ensures) told
 
 pub returns-in-Ok-Exists-clause-told : goal.returns-in-Ok-Exists-clause-told
 returns-in-Ok-Exists-clause-told g c =
@@ -71,5 +72,5 @@ returns-in-Err-sync_names-clause-told g c =
     let Told1 : Past → Past → Type 0 = λ old. RR x (Exactly (Rename x.route.draft x.route.target ∷ [])) (IsRenamed x.rules.reading.number x.route.text x.bytes (calls.Bs x old)) old in
     let r1 = since_call (may (g.S.Store.manners c.args.store.now)) p0 p0 p1 Told0 Told1 (RenameAnswer x.route.draft x.route.target (Ok Done)) r0 (subst (λ r. Answers (may (g.S.Store.manners c.args.store.now)) p0 p1 (RenameAnswer x.route.draft x.route.target (Ok r))) c.in-Ok-Done.field-0-is c.in-Ok-Done.ensures.told) (λ old now new h told. calls.rename_done x old now new c.requires.narrow.good h told) in
     let p2 = g.S.Store.past c.sync_names.new.self in
-    let told = since_call (may (g.S.Store.manners c.args.store.now)) p0 p1 p2 Told1 (RR x (Unmoved x.route OnNames c.in-Err-sync_names.cause) Anything) (PlainAnswer SyncNames (Err c.in-Err-sync_names.cause)) r1 (subst (λ m. Answers (may m) p1 p2 (PlainAnswer SyncNames (Err c.in-Err-sync_names.cause))) q1 (c.in-Err-sync_names.ensures.told)) (λ old now new h told. calls.publish_err x old now new h c.in-Err-sync_names.cause told) in
-    subst (λ (e : StepErr). Since p0 p2 (MoveLeaves x.rules x.route x.bytes (Err e))) (sym c.on_names.ensures) told
+    let told = since_call (may (g.S.Store.manners c.args.store.now)) p0 p1 p2 Told1 (calls.Stopping x x.bytes (draft_plan x.route.draft x.bytes) asked.SyncRename c.in-Err-sync_names.cause) (PlainAnswer SyncNames (Err c.in-Err-sync_names.cause)) r1 (subst (λ m. Answers (may m) p1 p2 (PlainAnswer SyncNames (Err c.in-Err-sync_names.cause))) q1 (c.in-Err-sync_names.ensures.told)) (λ old now new h told. calls.publish_err x old now new h c.in-Err-sync_names.cause told) in
+    subst (λ (e : StepErr). Since p0 p2 (MoveLeaves x.rules x.route x.bytes (Err e))) (sym c.stopped-in-Err-sync_names.ensures) told

@@ -8,7 +8,7 @@ use Rattle.ice_store.proofs.SinceLaws.{since_call, since_start}
 use Rattle.commit_history.specs.Versions.{number_in, folder}
 use Rattle.commit_history.proofs.Numbering.{numbering}
 use Rattle.commit_history.proofs.ListingLaws.{inside}
-use Rattle.commit_publish.specs.Stages.{Exactly, Anything}
+use Rattle.commit_publish.specs.Steps.{Exactly, Anything}
 use Rattle.commit_history.specs.Readings.{rules_of}
 use Rattle.commit_versions.specs.Opening.{FindLeaves}
 use Rattle.commit_versions.specs.Latest.{IsFound}

@@ -3,7 +3,7 @@ use Rattle.ice_store.specs.Since.{Since}
 use Rattle.ice_store.proofs.SinceLaws.{since_start, since_then, since_where}
 use Rattle.commit_history.specs.Versions.{number_in}
 use Rattle.commit_history.proofs.Numbering.{numbering}
-use Rattle.commit_publish.specs.Stages.{Exactly, Anything}
+use Rattle.commit_publish.specs.Steps.{Exactly, Anything}
 use Rattle.commit_history.specs.Readings.{rules_of}
 use Rattle.commit_versions.specs.Opening.{OpenLeaves}
 use Rattle.commit_versions.proofs.OpenLaws as laws

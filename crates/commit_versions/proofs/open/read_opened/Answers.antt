@@ -4,7 +4,8 @@ use Rattle.ice_store.specs.Since.{Since}
 use Rattle.ice_store.proofs.SinceLaws.{since_turned}
 use Rattle.commit_history.specs.Versions.{number_in}
 use Rattle.commit_history.proofs.Numbering.{numbering}
-use Rattle.commit_publish.specs.Stages.{Exactly, InState}
+use Rattle.commit_publish.specs.Stages.{InState}
+use Rattle.commit_publish.specs.Steps.{Exactly}
 use Rattle.commit_history.specs.Readings.{rules_of}
 use Rattle.commit_versions.specs.Opening.{IsText, IsLong, ReadLeaves}
 use Rattle.commit_versions.specs.declared.types.VersionFile.{VersionFile}

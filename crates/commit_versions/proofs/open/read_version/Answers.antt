@@ -6,7 +6,7 @@ use Rattle.ice_store.specs.declared.history.Past.{Past}
 use Rattle.ice_store.proofs.SinceLaws.{since_call, since_start}
 use Rattle.commit_history.specs.Versions.{number_in}
 use Rattle.commit_history.proofs.Numbering.{numbering}
-use Rattle.commit_publish.specs.Stages.{Exactly, Anything}
+use Rattle.commit_publish.specs.Steps.{Exactly, Anything}
 use Rattle.commit_history.specs.Readings.{rules_of}
 use Rattle.commit_versions.specs.Opening.{ReadLeaves, version_file_of, file_limit}
 use Rattle.commit_versions.specs.declared.types.VersionFile.{VersionFile}
