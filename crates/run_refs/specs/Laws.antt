@@ -7,10 +7,14 @@ use Rattle.metadata_view.specs.View.{snapshots_of, current_of}
 use Rattle.metadata_view.specs.Walk.{snapshot_with}
 use Rattle.table_metadata.specs.declared.cause.EditErr.TheVariants.{UnknownSnapshot}
 use Rattle.commit_protocol.specs.declared.errors.Refusal.{Refusal}
+use Rattle.commit_protocol.specs.declared.errors.Refusal.TheVariants.{BadArgument}
 use Rattle.commit_protocol.specs.declared.errors.AttemptErr.TheVariants.{Refused}
 use Rattle.run_refs.specs.declared.ancestors.Ancestor.{Ancestor}
 use Rattle.run_refs.specs.declared.goal.Goal.{Goal}
+use Rattle.commit_protocol.specs.Verdicts.{IsDecided}
 use Rattle.run_refs.specs.Ancestors.{Lists}
+use Rattle.run_refs.specs.Meanings.{moves_of}
+use Rattle.run_refs.specs.Procedures.{Unasked, RefusesListing, listing_of}
 use Rattle.run_refs.specs.Moves.{Aim, Aims, Moves, IsThere, RefusesMove}
 use Rattle.run_refs.specs.Refs.{ref_at}
 
@@ -57,3 +61,11 @@ OneListing = (given : Option ℤ) (tree : Data) (rows others : List Ancestor) �
 -- a table that lacks the snapshot has no listing from it
 abbrev pub ListsOrLacks : Type 0
 ListsOrLacks = (given : Option ℤ) (tree : Data) (rows : List Ancestor) (id : ℤ) → Lists given tree (Ok rows) → Lists given tree (Err (UnknownSnapshot id)) → ⊥
+
+-- the meanings of each of the ref procedures exclude one another
+abbrev pub AreDecided : Type 0
+AreDecided = ((goal : Goal) (now : ℕ) → IsDecided (moves_of goal now Unasked)) × ((given : Option ℤ) → IsDecided (listing_of given))
+
+-- neither of the ref procedures refuses a table for an argument
+abbrev pub NameNoArgument : Type 0
+NameNoArgument = ((goal : Goal) (tree : Data) (name : List ℕ) → RefusesMove goal tree (Refused (BadArgument name)) → ⊥) × ((given : Option ℤ) (tree : Data) (name : List ℕ) → RefusesListing given tree (Refused (BadArgument name)) → ⊥)

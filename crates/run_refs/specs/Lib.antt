@@ -3,3 +3,5 @@ pub mod Laws
 pub mod Meanings
 pub mod Moves
 pub mod Refs
+pub mod Reports
+pub mod Procedures

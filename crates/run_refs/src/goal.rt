@@ -18,6 +18,23 @@ pub enum Goal {
     FastForward { branch: Text, to: Text },
 }
 
+impl Goal {
+    /// An equal goal.
+    pub fn copy(&self) -> Result<Goal, AllocError>
+        ensures { IfOk result (λ copied. copied ≡ self.now) }
+    {
+        match self {
+            Goal::Rollback { id } => Ok(Goal::Rollback { id: *id }),
+            Goal::SetCurrent { id } => Ok(Goal::SetCurrent { id: *id }),
+            Goal::SetCurrentTo { name } => Ok(Goal::SetCurrentTo { name: name.copy()? }),
+            Goal::FastForward { branch, to } => Ok(Goal::FastForward {
+                branch: branch.copy()?,
+                to: to.copy()?,
+            }),
+        }
+    }
+}
+
 /// The name of the ref that moves.
 pub(crate) fn ref_name(alloc: Global, goal: &Goal) -> Result<Text, AllocError>
     ensures { IfOk result (λ name. name ≡ goal_ref goal.now) }

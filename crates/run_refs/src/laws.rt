@@ -1,5 +1,5 @@
 //! Laws of the definitions.
-ghost use Rattle.run_refs.specs.Laws.{OneAim, OneSuccessor, OneRefusal, MovesOrIsThere, MovesOrRefuses, IsThereOrRefuses, MainIsCurrent, RefsAreKnown, OneListing, ListsOrLacks};
+ghost use Rattle.run_refs.specs.Laws.{OneAim, OneSuccessor, OneRefusal, MovesOrIsThere, MovesOrRefuses, IsThereOrRefuses, MainIsCurrent, RefsAreKnown, OneListing, ListsOrLacks, AreDecided, NameNoArgument};
 
 /// On each table a goal has one aim: the ref moves, is there already, or the table refuses, and each in one way. Want of
 /// memory aside.
@@ -22,4 +22,11 @@ pub fn refs_are_at_snapshots()
 pub fn listings_are_decided()
     ensures one { OneListing }
     ensures lists_or_lacks { ListsOrLacks }
+{}
+
+/// The meanings of the ref procedures exclude one another, so that no two of their answers have their cause in one base;
+/// and none of them refuses a table for an argument.
+pub fn procedures_are_decided()
+    ensures decided { AreDecided }
+    ensures no_argument { NameNoArgument }
 {}

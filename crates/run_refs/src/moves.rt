@@ -3,13 +3,15 @@ ghost use Rattle.std.specs.Prelude.{◌≡◌, ◌<◌, ◌^◌, ◌↔◌, pos,
 ghost use Rattle.serde_json.specs.View.{view};
 ghost use Rattle.run_refs.specs.Meanings.{IsMoved, moves_of};
 ghost use Rattle.run_refs.specs.Moves.{RefusesMove, HasSeen};
+ghost use Rattle.run_refs.specs.Reports.{move_report};
 
 use crate::aims::aim;
 use crate::goal::{Goal, ref_name};
 use crate::look::ref_at;
+use crate::report::report_move;
 use commit_protocol::{AttemptErr, Built, Change, Log};
 use ice_store::{Ids, Manners, Place, Store, Text};
-use std::alloc::Global;
+use std::alloc::{AllocError, Global};
 use table_metadata::Meta;
 
 /// A move of a ref, at the moment `now`.
@@ -40,6 +42,13 @@ impl RefMove {
             previous: None,
             id: 0,
         }
+    }
+
+    /// The report: where the ref was in the base that was asked last, and where it is to be; of a branch with its name.
+    pub fn report(&self, alloc: Global) -> Result<Text, AllocError>
+        ensures { IfOk result (λ text. text ≡ move_report self.entry.now.goal self.entry.now.previous self.entry.now.id) }
+    {
+        report_move(alloc, &self.goal, self.previous, self.id)
     }
 }
 

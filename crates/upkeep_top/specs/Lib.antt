@@ -2,7 +2,7 @@ pub mod Points
 pub mod Chains
 pub mod Commands
 pub mod Words
-pub mod Reports
+pub mod Procedures
 pub mod Verdicts
 pub mod Promises
 pub mod Statements

@@ -1,6 +1,7 @@
 -- A moment of a run, as contracts see it.
 use Rattle.std.specs.Prelude.{ℕ, List, [], Option}
 use Rattle.ice_store.specs.Places.{Parts}
+use Rattle.ice_store.specs.declared.history.Failure.{Failure}
 use Rattle.ice_store.specs.declared.history.Past.{Past}
 use Rattle.commit_publish.specs.declared.publish.Log.{Log}
 use Rattle.run_answers.specs.declared.status.Outcome.{Outcome}
@@ -10,27 +11,13 @@ use Rattle.run_answers.specs.declared.status.Outcome.{Outcome}
 pub record Point : Type 0 where
   pub past : Option Past
   pub faults : ℕ
-  pub halted : Option ℕ
+  pub halted : Option Failure
   pub moments : Option (List ℕ)
   pub identifiers : Option (List ℕ)
   pub output : Option (List ℕ)
   pub output_faults : ℕ
   pub committed : List ℕ
   pub left : List Parts
-
--- the moment with these values
-abbrev pub point : Option Past → ℕ → Option ℕ → Option (List ℕ) → Option (List ℕ) → Option (List ℕ) → ℕ → List ℕ → List Parts → Point
-point past faults halted moments identifiers output output_faults committed left = record {
-  past = past;
-  faults = faults;
-  halted = halted;
-  moments = moments;
-  identifiers = identifiers;
-  output = output;
-  output_faults = output_faults;
-  committed = committed;
-  left = left;
-}
 
 -- what a run noted: the versions that it published and acknowledged, and the places that it left
 pub record Notes : Type 0 where
@@ -49,12 +36,47 @@ noted log = record { committed = log.committed.items; left = log.left.items }
 abbrev pub run_notes : Outcome → Notes
 run_notes outcome = record { committed = outcome.committed; left = outcome.left }
 
--- A call is seen by what its store, clock, source of identifiers and output tell of themselves.
-module _ {S C I O : Type 0} (past : S → Option Past) (faults : S → ℕ) (halted : S → Option ℕ) (moments : C → Option (List ℕ)) (identifiers : I → Option (List ℕ)) (output : O → Option (List ℕ)) (output_faults : O → ℕ) where
-  -- the moment at which they are so
-  abbrev pub moment : S → C → I → O → Notes → Point
-  moment store clock ids out notes = point (past store) (faults store) (halted store) (moments clock) (identifiers ids) (output out) (output_faults out) notes.committed notes.left
+-- what a store, a clock, a source of identifiers and an output tell of themselves
+pub record Tells (S C I O : Type 0) : Type 0 where
+  pub past : S → Option Past
+  pub faults : S → ℕ
+  pub halted : S → Option Failure
+  pub moments : C → Option (List ℕ)
+  pub identifiers : I → Option (List ℕ)
+  pub output : O → Option (List ℕ)
+  pub output_faults : O → ℕ
 
-  -- the moments before and after a call are in a relation; of each object it takes the one before and the one after
-  abbrev pub Between : S → S → C → C → I → I → O → O → Notes → Notes → (Point → Point → Type 0) → Type 0
-  Between store store' clock clock' ids ids' out out' notes notes' Relation = Relation (moment store clock ids out notes) (moment store' clock' ids' out' notes')
+-- such objects, with what is noted
+pub record Objects (S C I O : Type 0) : Type 0 where
+  pub store : S
+  pub clock : C
+  pub ids : I
+  pub out : O
+  pub notes : Notes
+
+module _ {S C I O : Type 0} where
+  -- by these functions
+  abbrev pub tells : (S → Option Past) → (S → ℕ) → (S → Option Failure) → (C → Option (List ℕ)) → (I → Option (List ℕ)) → (O → Option (List ℕ)) → (O → ℕ) → Tells S C I O
+  tells past faults halted moments identifiers output output_faults = record { past = past; faults = faults; halted = halted; moments = moments; identifiers = identifiers; output = output; output_faults = output_faults }
+
+  -- these objects
+  abbrev pub at : S → C → I → O → Notes → Objects S C I O
+  at store clock ids out notes = record { store = store; clock = clock; ids = ids; out = out; notes = notes }
+
+  -- the moment at which they are so
+  abbrev pub moment : Tells S C I O → Objects S C I O → Point
+  moment t x = record {
+    past = t.past x.store;
+    faults = t.faults x.store;
+    halted = t.halted x.store;
+    moments = t.moments x.clock;
+    identifiers = t.identifiers x.ids;
+    output = t.output x.out;
+    output_faults = t.output_faults x.out;
+    committed = x.notes.committed;
+    left = x.notes.left;
+  }
+
+  -- the moments before and after a call are in a relation
+  abbrev pub Between : Tells S C I O → Objects S C I O → Objects S C I O → (Point → Point → Type 0) → Type 0
+  Between t before after Relation = Relation (moment t before) (moment t after)

@@ -1,97 +1,84 @@
--- What a statement adds to a history: steps, versions, and their successors.
-use Rattle.std.specs.Prelude.{◌≡◌, ◌⊎◌, ℕ, zero, suc, List, [], ◌∷◌, ◌++◌, Ok, Err}
+-- What a run adds to a history: the versions that it publishes, and their successors.
+use Rattle.std.specs.Prelude.{◌≡◌, ◌⊎◌, ℕ, zero, suc, List, [], ◌∷◌, ◌++◌}
+use Rattle.serde_json.specs.Data.{Data}
 use Rattle.ice_store.specs.Places.{Parts}
 use Rattle.ice_store.specs.History.{later}
 use Rattle.ice_store.specs.declared.history.Event.{Event}
 use Rattle.ice_store.specs.declared.history.Past.{Past}
 use Rattle.ice_store.specs.declared.history.Step.{Step}
 use Rattle.ice_store.specs.declared.history.Step.TheVariants.{Create, Append, Seal, Rename, Remove, SyncNames}
-use Rattle.ice_store.specs.declared.faults.ReadErr.TheVariants.{Missing, Damaged, Unsupported, StoreFault, Memory}
-use Rattle.commit_history.specs.Versions.{number_in}
 use Rattle.commit_history.specs.Runs.{ours}
-use Rattle.commit_publish.specs.Stages.{draft_plan}
+use Rattle.commit_publish.specs.Kinds as kinds
+use Rattle.commit_publish.specs.Kinds.{Kind}
 use Rattle.commit_protocol.specs.Promises.{Succession}
-use Rattle.commit_protocol.specs.declared.errors.AttemptErr.TheVariants as attempts
-use Rattle.commit_protocol.specs.declared.errors.CommitErr.TheVariants.{Open, Attempt, Contended, CommitUnknown}
-use Rattle.commit_protocol.specs.declared.errors.Committed.TheVariants.{Same, Published}
-use Rattle.run_refs.specs.Moves.{Moves}
-use Rattle.upkeep_top.specs.Verdicts.{End}
-use Rattle.upkeep_top.specs.declared.task.Task.{Task}
-use Rattle.upkeep_top.specs.declared.task.Work.{Work}
-use Rattle.upkeep_top.specs.declared.task.Work.TheVariants.{Move, List as Listing}
 
 -- Versions.
 
--- a number of a version place, and none for another place
-abbrev pub version_by : ℕ → List ℕ
-version_by zero = []
-version_by (suc n) = suc n ∷ []
+-- the versions to which files were renamed: those behind whose rename a sync of Us stands, and those behind which none does
+pub record Renamed : Type 0 where
+  pub settled : List ℕ
+  pub open_ones : List ℕ
 
--- the version that a step renames a file to
-abbrev pub renamed_to : (Parts → ℕ) → Step → List ℕ
-renamed_to number (Create place) = []
-renamed_to number (Append place more) = []
-renamed_to number (Seal place) = []
-renamed_to number (Rename from to) = version_by (number to)
-renamed_to number (Remove place) = []
-renamed_to number SyncNames = []
+-- one more, where a place has a version's number
+abbrev pub renamed_to : ℕ → Renamed → Renamed
+renamed_to zero r = r
+renamed_to (suc n) r = record { settled = r.settled; open_ones = r.open_ones ++ suc n ∷ [] }
 
--- the versions that these steps rename files to, in order
-abbrev pub versions_of : (Parts → ℕ) → List Step → List ℕ
-versions_of number [] = []
-versions_of number (step ∷ steps) = renamed_to number step ++ versions_of number steps
+-- the same after a step of Us, of a table with this numbering
+abbrev pub renamed_after : (Parts → ℕ) → Renamed → Step → Renamed
+renamed_after number r (Create place) = r
+renamed_after number r (Append place more) = r
+renamed_after number r (Seal place) = r
+renamed_after number r (Rename from to) = renamed_to (number to) r
+renamed_after number r (Remove place) = r
+renamed_after number r SyncNames = record { settled = r.settled ++ r.open_ones; open_ones = [] }
 
--- the versions to which steps of Us renamed files between two moments
-pub record Publishes (number : Parts → ℕ) (old new : Past) (versions : List ℕ) : Type 0 where
+-- and after these
+abbrev pub renamed_by : (Parts → ℕ) → Renamed → List Step → Renamed
+renamed_by number r [] = r
+renamed_by number r (step ∷ steps) = renamed_by number (renamed_after number r step) steps
+
+-- all of these are settled
+abbrev pub all_settled : List ℕ → Renamed
+all_settled versions = record { settled = versions; open_ones = [] }
+
+-- all but the last
+abbrev pub last_open : List ℕ → ℕ → Renamed
+last_open versions version = record { settled = versions; open_ones = version ∷ [] }
+
+-- the versions that a run tells of are those to which it renamed files, each with a sync behind it; one more, the unknown one, may be there with or without one;
+-- and where memory lacked one without a sync
+abbrev pub ToldBy : Kind → List ℕ → Renamed → Type 0
+ToldBy kinds.Done versions r = r ≡ all_settled versions
+ToldBy kinds.Told versions r = r ≡ all_settled versions
+ToldBy (kinds.Fault place) versions r = r ≡ all_settled versions
+ToldBy (kinds.Unknown version) versions r = (r ≡ all_settled versions) ⊎ ((r ≡ last_open versions version) ⊎ (r ≡ all_settled (versions ++ version ∷ [])))
+ToldBy (kinds.Lost version) versions r = r ≡ all_settled versions
+ToldBy kinds.Memory versions r = (r ≡ all_settled versions) ⊎ ((version : ℕ) × (r ≡ last_open versions version))
+
+-- the steps of Us between two moments renamed files to these versions
+pub record Renames (number : Parts → ℕ) (old new : Past) (renamed : Renamed) : Type 0 where
   pub events : List Event
   pub is : new ≡ later old events
-  pub versions_are : versions ≡ versions_of number (ours events)
-
--- one version at most
-abbrev pub NoneOrOne : List ℕ → Type 0
-NoneOrOne versions = (versions ≡ []) ⊎ ((v : ℕ) × (versions ≡ v ∷ []))
-
--- the versions of a statement's renames, by its end
-abbrev pub VersionsBy : End → List ℕ → Type 0
-VersionsBy (Ok (Same v)) versions = versions ≡ []
-VersionsBy (Ok (Published v)) versions = versions ≡ v ∷ []
-VersionsBy (Err (Open e)) versions = versions ≡ []
-VersionsBy (Err (Attempt (attempts.Refused refusal))) versions = versions ≡ []
-VersionsBy (Err (Attempt (attempts.Conflict place other))) versions = versions ≡ []
-VersionsBy (Err (Attempt (attempts.NameTaken place))) versions = versions ≡ []
-VersionsBy (Err (Attempt (attempts.Read (Missing place)))) versions = versions ≡ []
-VersionsBy (Err (Attempt (attempts.Read (Damaged place at)))) versions = versions ≡ []
-VersionsBy (Err (Attempt (attempts.Read (Unsupported place what)))) versions = versions ≡ []
-VersionsBy (Err (Attempt (attempts.Read (StoreFault place)))) versions = versions ≡ []
-VersionsBy (Err (Attempt (attempts.Read Memory))) versions = NoneOrOne versions
-VersionsBy (Err (Contended v)) versions = versions ≡ []
-VersionsBy (Err (CommitUnknown v)) versions = (versions ≡ []) ⊎ (versions ≡ v ∷ [])
-
--- the steps of Us between two moments, of which this holds
-pub record Took (P : List Step → Type 0) (old new : Past) : Type 0 where
-  pub events : List Event
-  pub is : new ≡ later old events
-  pub steps : P (ours events)
-
--- the steps of a statement whose work is done: none, or those of one publish, of any draft, target and bytes; of another end any
-abbrev pub DoneSteps : End → List Step → Type 0
-DoneSteps (Ok (Same v)) steps = steps ≡ []
-DoneSteps (Ok (Published v)) steps = (draft : Parts) × (target : Parts) × (bytes : List ℕ) × (steps ≡ draft_plan draft bytes ++ (Rename draft target ∷ SyncNames ∷ []))
-DoneSteps (Err e) steps = Unit {0}
-
--- the renames of a statement, by its end
-abbrev pub HasSteps : Parts → End → Past → Past → Type 0
-HasSteps table end old new = (versions : List ℕ) × Publishes (number_in table) old new versions × VersionsBy end versions
+  pub renamed_is : renamed ≡ renamed_by number (all_settled []) (ours events)
 
 -- Successors.
 
--- the version is a successor by this work; a listing publishes none
-abbrev pub SucceedsBy : Work → Parts → ℕ → ℕ → Past → Past → Type 0
-SucceedsBy (Move goal) table now v old new = Succession (Moves goal now) table now v old new
-SucceedsBy (Listing given) table now v old new = ⊥
+-- each of these versions is a successor by this relation, published between two moments
+abbrev pub AllSucceed : (Data → Data → Type 0) → Parts → ℕ → List ℕ → Past → Past → Type 0
+AllSucceed successor table now [] old new = Unit {0}
+AllSucceed successor table now (v ∷ versions) old new = Succession successor table now v old new × AllSucceed successor table now versions old new
 
--- a published version is a successor by this statement
-abbrev pub HasSucceeded : Task → ℕ → End → Past → Past → Type 0
-HasSucceeded task now (Ok (Same v)) old new = Unit {0}
-HasSucceeded task now (Ok (Published v)) old new = SucceedsBy task.work task.table now v old new
-HasSucceeded task now (Err e) old new = Unit {0}
+-- An unknown commit.
+
+-- its rename and the sync behind it may have been taken
+abbrev pub IsOpenEnd : Parts → Parts → List Step → Type 0
+IsOpenEnd draft target more = (more ≡ []) ⊎ ((more ≡ Rename draft target ∷ []) ⊎ (more ≡ Rename draft target ∷ SyncNames ∷ []))
+
+-- steps that end with the seal of a new metadata file and a sync, and then nothing, its rename to this place, or its rename and a sync
+pub record EndsOpen (target : Parts) (steps : List Step) : Type 0 where
+  pub before : List Step
+  pub draft : Parts
+  pub more : List Step
+  pub is : steps ≡ before ++ (Seal draft ∷ SyncNames ∷ more)
+  pub end : IsOpenEnd draft target more

@@ -1,25 +1,30 @@
 -- What a run does, and when each of its statuses comes.
-use Rattle.std.specs.Prelude.{◌≡◌, ◌⊎◌, ℕ, List, [], ◌∷◌, ◌++◌, Option, length}
+use Rattle.std.specs.Prelude.{◌≡◌, ◌⊎◌, ℕ, List, [], ◌∷◌, ◌++◌, Option, length, Contains}
+use Rattle.serde_json.specs.Data.{Data}
 use Rattle.ice_store.specs.Places.{Parts}
 use Rattle.ice_store.specs.Given.{Gives}
 use Rattle.ice_store.specs.History.{replay, later}
 use Rattle.ice_store.specs.Since.{Since}
 use Rattle.ice_store.specs.declared.history.Event.{Event}
+use Rattle.ice_store.specs.declared.history.Failure.{Failure}
 use Rattle.ice_store.specs.declared.history.Past.{Past}
+use Rattle.commit_history.specs.Runs.{ours}
 use Rattle.commit_history.specs.Versions.{number_in}
-use Rattle.commit_protocol.specs.Promises.{StopsHavePrefix, StopsHaveFiles}
+use Rattle.commit_protocol.specs.Promises.{Succession, StopsHavePrefix, StopsHaveFiles}
 use Rattle.commit_protocol.specs.Verdicts.{IsOneDrawn}
 use Rattle.commit_protocol.specs.Written.{draft_at, version_at}
-use Rattle.commit_publish.specs.Left.{IsNaming, Leaves, TellsRename}
+use Rattle.commit_protocol.specs.declared.errors.AttemptErr.TheVariants.{Refused}
+use Rattle.commit_protocol.specs.declared.errors.Refusal.TheVariants as refusals
+use Rattle.commit_publish.specs.Kinds.{Kind, Marks}
+use Rattle.commit_publish.specs.Left.{Leaves}
 use Rattle.commit_versions.specs.Opening.{IsAskedFor}
-use Rattle.ice_store.specs.declared.history.Step.{Step}
 use Rattle.run_answers.specs.declared.status.Status.{Status}
 use Rattle.run_answers.specs.declared.status.Status.TheVariants.{Done, BadArgument, StoreFault, CommitUnknown, OutOfMemory}
 use Rattle.upkeep_top.specs.Chains.{Leads}
 use Rattle.upkeep_top.specs.Points.{Point}
-use Rattle.upkeep_top.specs.Promises.{Publishes, SucceedsBy}
+use Rattle.upkeep_top.specs.Promises.{Renamed, Renames, ToldBy, EndsOpen}
 use Rattle.upkeep_top.specs.Statements.{Ends, IsSafeFor}
-use Rattle.upkeep_top.specs.Verdicts.{Verdict, IsFree}
+use Rattle.upkeep_top.specs.Verdicts.{Verdict, IsFree, meanings_of}
 use Rattle.upkeep_top.specs.Words.{Ask, RefusesWords}
 use Rattle.upkeep_top.specs.declared.task.Task.{Task}
 
@@ -61,9 +66,21 @@ RunsBy words status p q = (IsRefusal words status × (q ≡ p)) ⊎ RanAsked wor
 pub record Runs (words : List (List ℕ)) (status : Status) (p q : Point) : Type 0 where
   pub how : RunsBy words status p q
 
--- a refused argument is told only where the words are refused
-abbrev pub TellsBadArgument : List (List ℕ) → Status → Past → Past → Type 0
-TellsBadArgument words status old new = (word : ℕ) (name : List ℕ) → status ≡ BadArgument word name → RefusesWords words status
+-- the statement that this word is refuses a table for the argument with this name
+pub record IsRefusedArgument (words : List (List ℕ)) (word : ℕ) (name : List ℕ) : Type 0 where
+  pub table : Parts
+  pub tasks : List Task
+  pub ask : Ask words table tasks
+  pub task : Task
+  pub among : Contains tasks task
+  pub word_is : word ≡ task.word
+  pub now : ℕ
+  pub tree : Data
+  pub refuses : (meanings_of task now).change.refuses tree (Refused (refusals.BadArgument name))
+
+-- a refused argument is told only where the words are refused, or a statement refuses a table for it
+abbrev pub TellsBadArgument : List (List ℕ) → Status → Type 0
+TellsBadArgument words status = (word : ℕ) (name : List ℕ) → status ≡ BadArgument word name → RefusesWords words status ⊎ IsRefusedArgument words word name
 
 -- of the last statement that ran: its status is this one exactly where the files that stood at its beginning ask for it; a fault or want of memory may come in its place
 pub record Row (status asked : Status) (task : Task) (now : ℕ) (Drawn : ℕ → Type 0) (past : Past) : Type 0 where
@@ -115,12 +132,13 @@ KeepsPrefix words old new = (table : Parts) → AskOf words table → StopsHaveP
 abbrev pub KeepsFiles : List (List ℕ) → Past → Past → Type 0
 KeepsFiles words old new = (table : Parts) → AskOf words table → StopsHaveFiles table old new
 
--- this version is a successor of the one before it, by a move of the table that the words name
+-- this version is a successor of the one before it, by a statement that the words ask for
 pub record PublishedBy (words : List (List ℕ)) (v : ℕ) (old new : Past) : Type 0 where
   pub table : Parts
-  pub asked : AskOf words table
+  pub tasks : List Task
+  pub ask : Ask words table tasks
   pub task : Task
-  pub of_table : task.table ≡ table
+  pub among : Contains tasks task
   pub now : ℕ
   pub begun : Past
   pub ended : Past
@@ -128,36 +146,32 @@ pub record PublishedBy (words : List (List ℕ)) (v : ℕ) (old new : Past) : Ty
   pub begun_is : begun ≡ later old earlier
   pub rest : List Event
   pub rest_is : new ≡ later ended rest
-  pub succeeds : SucceedsBy task.work task.table now v begun ended
+  pub succeeds : Succession (meanings_of task now).change.successor table now v begun ended
 
 -- each version that the run tells of
 abbrev pub EachSucceeds : List (List ℕ) → List ℕ → Past → Past → Type 0
 EachSucceeds words [] old new = Unit {0}
 EachSucceeds words (v ∷ versions) old new = PublishedBy words v old new × EachSucceeds words versions old new
 
--- the versions to which the run renamed files are those that it tells of; the last one isn't told of where its commit is unknown, or memory lacked
-abbrev pub TellsBy : Status → List ℕ → List ℕ → Type 0
-TellsBy status committed versions = (versions ≡ committed) ⊎ (((v : ℕ) × (status ≡ CommitUnknown v) × (versions ≡ committed ++ v ∷ [])) ⊎ ((v : ℕ) × (status ≡ OutOfMemory) × (versions ≡ committed ++ v ∷ [])))
+-- which versions were told, by the kind of end, and which may be there besides
+abbrev pub TellsVersions : List (List ℕ) → Kind → List ℕ → Past → Past → Type 0
+TellsVersions words kind committed old new = ((new ≡ old) × (committed ≡ [])) ⊎ ((table : Parts) × AskOf words table × ((renamed : Renamed) × Renames (number_in table) old new renamed × ToldBy kind committed renamed))
 
--- which versions were told, and which may be there besides
-abbrev pub TellsVersions : List (List ℕ) → Status → List ℕ → Past → Past → Type 0
-TellsVersions words status committed old new = ((new ≡ old) × (committed ≡ [])) ⊎ ((table : Parts) × AskOf words table × ((versions : List ℕ) × Publishes (number_in table) old new versions × TellsBy status committed versions))
+-- the places that are left are those that the run created and neither removed nor renamed to a version that it tells of; beside them stands one that the failed step names, where the count of faults rose
+abbrev pub LeavesPlaces : List ℕ → List Parts → Type 0 → Option Failure → Past → Past → Type 0
+LeavesPlaces committed left Risen mark old new = Leaves Risen mark (length committed) [] left old new
 
--- a step that names a new metadata file of the table, under a name of its own or a version's
-abbrev pub IsNamingIn : Parts → Step → Type 0
-IsNamingIn table step = (id : ℕ) × (version : ℕ) × IsNaming (draft_at table id) (version_at table version) step
+-- the words are refused and no call failed; or a failed call is marked, and told at its place, by the kind of end
+abbrev pub MarksRun : List (List ℕ) → Kind → Option Failure → Option Failure → Option Past → Type 0
+MarksRun words kind before now told = (now ≡ before) ⊎ ((table : Parts) × AskOf words table × Marks table kind before now told)
 
--- the places that are left are those that the run created and neither removed nor renamed to a version that it tells of; beside them stands one that a failed step names, where the count of faults rose
-abbrev pub LeavesPlaces : List (List ℕ) → List ℕ → List Parts → Type 0 → Past → Past → Type 0
-LeavesPlaces words committed left Risen old new = ((new ≡ old) × (left ≡ [])) ⊎ ((table : Parts) × AskOf words table × Leaves Risen (IsNamingIn table) (length committed) [] left old new)
+-- a store fault is told at a place that the run asked for: the table, its metadata's folder or a version's place; or at a new metadata file
+abbrev pub TellsFaultAt : List (List ℕ) → Parts → Type 0
+TellsFaultAt words place = (table : Parts) × AskOf words table × ((place ≡ table) ⊎ (IsAskedFor table place ⊎ ((id : ℕ) × (place ≡ draft_at table id))))
 
--- a store fault is told at a place that the run asked for: the table, its metadata's folder or a version's place; or at a new metadata file, which then is left
-abbrev pub TellsFaultAt : List (List ℕ) → Parts → List Parts → Type 0
-TellsFaultAt words place left = (table : Parts) × AskOf words table × ((place ≡ table) ⊎ (IsAskedFor table place ⊎ ((id : ℕ) × (place ≡ draft_at table id) × (left ≡ place ∷ []))))
-
--- a commit whose end is unknown: the rename to the version took place, and the new metadata file's name is left; or both of its names are
-abbrev pub TellsUnknown : List (List ℕ) → ℕ → List Parts → Past → Past → Type 0
-TellsUnknown words version left old new = (table : Parts) × AskOf words table × ((id : ℕ) × TellsRename (draft_at table id) (version_at table version) [] left old new)
+-- a commit whose end is unknown: the steps of the run end with the seal of its metadata and a sync, and then nothing, its rename, or its rename and a sync
+abbrev pub EndsUnknown : List (List ℕ) → ℕ → Past → Past → Type 0
+EndsUnknown words version old new = (table : Parts) × AskOf words table × ((events : List Event) × (new ≡ later old events) × EndsOpen (version_at table version) (ours events))
 
 -- a status after which places may have been left
 abbrev pub MayLeave : Status → Type 0

@@ -1,5 +1,5 @@
 -- What one statement does.
-use Rattle.std.specs.Prelude.{◌≡◌, ◌⊎◌, ℕ, ℤ, ◌≤◌, List, [], ◌++◌, take, length, Option, Some, Ok, Err}
+use Rattle.std.specs.Prelude.{◌≡◌, ◌⊎◌, ℕ, ℤ, ◌≤◌, List, [], ◌++◌, take, Option, Some, None, Ok, Err}
 use Rattle.serde_json.specs.Data.{Data}
 use Rattle.ice_store.specs.Places.{Parts}
 use Rattle.ice_store.specs.Calls.{Rose}
@@ -7,32 +7,35 @@ use Rattle.ice_store.specs.Given.{Gives}
 use Rattle.ice_store.specs.History.{replay}
 use Rattle.ice_store.specs.Others.{WhereTold}
 use Rattle.ice_store.specs.Since.{Since}
+use Rattle.ice_store.specs.declared.history.Failure.{Failure}
 use Rattle.ice_store.specs.declared.history.Held.{Held}
 use Rattle.ice_store.specs.declared.history.Past.{Past}
 use Rattle.ice_store.specs.declared.history.Step.{Step}
-use Rattle.ice_store.specs.declared.faults.ReadErr.TheVariants.{StoreFault}
 use Rattle.commit_history.specs.Runs.{Ran}
-use Rattle.commit_publish.specs.Left.{Notes}
-use Rattle.commit_publish.specs.Stages.{Anything}
+use Rattle.commit_publish.specs.Kinds as kinds
+use Rattle.commit_publish.specs.Kinds.{Kind, Counts, Marks}
+use Rattle.commit_publish.specs.Steps.{Anything}
 use Rattle.commit_versions.specs.Opening.{OpenFaultAt}
 use Rattle.commit_versions.specs.declared.types.OpenErr.{OpenErr}
-use Rattle.commit_protocol.specs.Causes.{CommitRose}
-use Rattle.commit_protocol.specs.Failures.{IsFaultOf, IsUnknownEnd}
+use Rattle.commit_protocol.specs.Ends.{Works, DrawsBy, LeavesBy}
+use Rattle.commit_protocol.specs.Kinds.{End, kind_of}
+use Rattle.commit_protocol.specs.Meanings.{Procedure}
 use Rattle.commit_protocol.specs.Metadata.{metadata_rules}
-use Rattle.commit_protocol.specs.Verdicts.{IsIdle}
-use Rattle.commit_protocol.specs.Written.{CommitLeft, IsNamingOf, commits, commit_count}
-use Rattle.commit_protocol.specs.declared.errors.AttemptErr.TheVariants as attempts
-use Rattle.commit_protocol.specs.declared.errors.CommitErr.TheVariants.{Open, Attempt, CommitUnknown}
+use Rattle.commit_protocol.specs.Verdicts.{IsTable}
+use Rattle.commit_protocol.specs.declared.errors.CommitErr.{CommitErr}
+use Rattle.commit_protocol.specs.declared.errors.CommitErr.TheVariants.{Open, Attempt}
+use Rattle.commit_protocol.specs.declared.errors.AttemptErr.TheVariants.{Refused}
+use Rattle.commit_protocol.specs.declared.errors.Refusal.{Refusal}
 use Rattle.run_answers.specs.Answers.{status_of}
 use Rattle.run_answers.specs.declared.status.Status.{Status}
 use Rattle.run_answers.specs.declared.status.Status.TheVariants.{Done, UnknownSnapshot, OutFault, OutOfMemory}
 use Rattle.run_refs.specs.Ancestors.{Lists}
+use Rattle.run_refs.specs.Reports.{list_report}
 use Rattle.run_refs.specs.declared.ancestors.Ancestor.{Ancestor}
 use Rattle.table_metadata.specs.declared.cause.EditErr.TheVariants.{UnknownSnapshot as Lacks}
 use Rattle.upkeep_top.specs.Points.{Point}
-use Rattle.upkeep_top.specs.Promises.{HasSucceeded, HasSteps, Took, DoneSteps}
-use Rattle.upkeep_top.specs.Reports.{Says, list_report}
-use Rattle.upkeep_top.specs.Verdicts.{End, OnTable, TaskVerdict}
+use Rattle.upkeep_top.specs.Promises.{AllSucceed}
+use Rattle.upkeep_top.specs.Verdicts.{OnTable, TaskVerdict, meanings_of}
 use Rattle.upkeep_top.specs.declared.task.Task.{Task}
 
 -- nobody else acts
@@ -52,9 +55,9 @@ abbrev pub IsEnd : Status → Type 0
 IsEnd status = (status ≡ Done) ⊎ ((status ≡ OutFault) ⊎ (status ≡ OutOfMemory))
 
 -- a statement whose work is done is Done once its report was put
-abbrev pub AnswersBy : ℕ → End → Status → Type 0
-AnswersBy word (Ok c) status = IsEnd status
-AnswersBy word (Err e) status = status ≡ status_of word e
+abbrev pub AnswersBy : ℕ → Option CommitErr → Status → Type 0
+AnswersBy word None status = IsEnd status
+AnswersBy word (Some e) status = status ≡ status_of word e
 
 -- what the output took of a report: all of it where the statement is Done, a prefix of it after OutFault, and else nothing
 pub record Reports (before after : Option (List ℕ)) (report : List ℕ) (status : Status) : Type 0 where
@@ -62,58 +65,54 @@ pub record Reports (before after : Option (List ℕ)) (report : List ℕ) (statu
   pub fault : status ≡ OutFault → WhereTold before (λ old. (n : ℕ) × (after ≡ Some (old ++ take n report)))
   pub other : (status ≡ Done → ⊥) → (status ≡ OutFault → ⊥) → after ≡ before
 
--- the work on a table's metadata was reported so
-abbrev pub ReportsOn : Task → Option (List ℕ) → Option (List ℕ) → Status → ℕ → Data → Type 0
-ReportsOn task before after status last tree = (report : List ℕ) × Says task.work tree report × Reports before after report status
+-- what a procedure says of a table's metadata was reported so
+abbrev pub ReportsOn : Procedure → Option (List ℕ) → Option (List ℕ) → Status → ℕ → Data → Type 0
+ReportsOn p before after status last tree = (report : List ℕ) × p.says tree report × Reports before after report status
 
 -- a report is put where the work is done; else the output stays as it was
-abbrev pub ReportedBy : Task → Option (List ℕ) → Option (List ℕ) → Status → List Held → End → Type 0
-ReportedBy task before after status files (Ok c) = OnTable task.table files (ReportsOn task before after status)
-ReportedBy task before after status files (Err e) = after ≡ before
+abbrev pub ReportedBy : Procedure → Parts → Option (List ℕ) → Option (List ℕ) → Status → List Held → Option CommitErr → Type 0
+ReportedBy p table before after status files None = OnTable table files (ReportsOn p before after status)
+ReportedBy p table before after status files (Some e) = after ≡ before
 
--- after a statement that is done no name change is pending
-abbrev pub RestsBy : End → Past → Type 0
-RestsBy (Ok c) past = (replay past).pending ≡ []
-RestsBy (Err e) past = Unit {0}
+-- after work that is done no name change is pending
+abbrev pub RestsBy : Kind → Past → Type 0
+RestsBy kinds.Done past = (replay past).pending ≡ []
+RestsBy kinds.Told past = Unit {0}
+RestsBy (kinds.Fault place) past = Unit {0}
+RestsBy (kinds.Unknown version) past = Unit {0}
+RestsBy (kinds.Lost version) past = Unit {0}
+RestsBy kinds.Memory past = Unit {0}
 
--- what a statement did to a history
-pub record Did (task : Task) (now : ℕ) (Drawn : ℕ → Type 0) (end : End) (status : Status) (before after : Option (List ℕ)) (old new : Past) : Type 0 where
+-- what a statement at this moment did to a history, where these identifiers were drawn: its end has its cause, each step was safe, and the steps, the versions and the places that are left are by the kind of its end
+pub record Did (task : Task) (now : ℕ) (Drawn : ℕ → Type 0) (end : End) (mark : Option Failure) (had has : List Parts) (old new : Past) : Type 0 where
   pub cause : TaskVerdict task now Drawn (replay old).files end
-  pub idle : IsIdle end old new
   pub safe : IsSafeFor task.table old new
-  pub rests : RestsBy end new
-  pub steps : HasSteps task.table end old new
-  pub took : Took (DoneSteps end) old new
-  pub succeeded : HasSucceeded task now end old new
-  pub report : ReportedBy task before after status (replay old).files end
+  pub rests : RestsBy (kind_of end) new
+  pub works : Works (meanings_of task now).change.successor Drawn task.table now (IsTable task.table (replay old).files) end mark had has old new
+  pub succeed : AllSucceed (meanings_of task now).change.successor task.table now end.versions old new
 
--- no event follows a failed store call: the mark is as it was, or it counts all events that there are
-abbrev pub Halts : Option ℕ → Option ℕ → Option Past → Type 0
-Halts before now told = (now ≡ before) ⊎ WhereTold told (λ past. now ≡ Some (length past.events))
-
--- what a statement tells of a failed call: the place that it was asked for; and what it names of ours stands in the log
-pub record Fails (table : Parts) (Drawn : ℕ → Type 0) (end : End) (had has : List Parts) (old new : Option Past) : Type 0 where
-  pub opening : (e : OpenErr) → end ≡ Err (Open e) → OpenFaultAt table e
-  pub fault : (place : Parts) → end ≡ Err (Attempt (attempts.Read (StoreFault place))) → IsFaultOf Drawn table place had has
-  pub renamed : (version : ℕ) → end ≡ Err (CommitUnknown version) → Since old new (IsUnknownEnd Drawn table version had has)
+-- the count of faults of an output rises where the status tells it, and else stays
+pub record OutputCounts (status : Status) (before now : ℕ) : Type 0 where
+  pub rose : status ≡ OutFault → Rose before now
+  pub kept : (status ≡ OutFault → ⊥) → now ≡ before
 
 -- a statement was run from one moment of the run to another, and ended so
 pub record Ends (task : Task) (status : Status) (p q : Point) : Type 0 where
   pub now : ℕ
   pub moment : Gives p.moments q.moments now
   pub end : End
-  pub answers : AnswersBy task.word end status
-  pub did : Since p.past q.past (Did task now (Gives p.identifiers q.identifiers) end status p.output q.output)
-  pub committed : q.committed ≡ commits end p.committed
-  pub left : CommitLeft (Gives p.identifiers q.identifiers) task.table end p.left q.left
-  pub noted : Since p.past q.past (Notes (Rose p.faults q.faults) (IsNamingOf (Gives p.identifiers q.identifiers) task.table) (commit_count end) [] p.left q.left)
-  pub fails : Fails task.table (Gives p.identifiers q.identifiers) end p.left q.left p.past q.past
-  pub faults : CommitRose end p.faults q.faults
+  pub answers : AnswersBy task.word end.error status
+  pub did : Since p.past q.past (Did task now (Gives p.identifiers q.identifiers) end q.halted p.left q.left)
+  pub report : Since p.past q.past (λ old new. ReportedBy (meanings_of task now) task.table p.output q.output status (replay old).files end.error)
+  pub committed : q.committed ≡ p.committed ++ end.versions
+  pub left : LeavesBy (Gives p.identifiers q.identifiers) task.table (kind_of end) p.left q.left
+  pub drawn : DrawsBy end.versions end.error p.identifiers q.identifiers
+  pub faults : Counts (kind_of end) p.faults q.faults
   pub later : p.faults ≤ q.faults
-  pub output_faults : status ≡ OutFault → Rose p.output_faults q.output_faults
-  pub output_later : p.output_faults ≤ q.output_faults
-  pub halted : Halts p.halted q.halted q.past
-  pub goes_on : status ≡ Done → q.halted ≡ p.halted
+  pub halted : Marks task.table (kind_of end) p.halted q.halted q.past
+  pub refused : (refusal : Refusal) → end.error ≡ Some (Attempt (Refused refusal)) → (tree : Data) × (meanings_of task now).change.refuses tree (Refused refusal)
+  pub opening : (e : OpenErr) → end.error ≡ Some (Open e) → OpenFaultAt task.table e
+  pub output_faults : OutputCounts status p.output_faults q.output_faults
 
 -- what a listing of ancestors on opened metadata answers: the report of the rows, the snapshot that lacks, or want of memory
 abbrev pub IsListedBy : Option ℤ → Data → Option (List ℕ) → Option (List ℕ) → Status → Type 0

@@ -1,20 +1,17 @@
 //! One statement: it is run at a moment that the clock gives, and its report is put.
 ghost use Rattle.std.specs.Prelude.{◌≡◌, ◌≤◌, ◌<◌, ◌^◌, [], List, ℕ, Ok, IfOk, IfErr, OnErr, OnOk};
-ghost use Rattle.ice_store.specs.Calls.{Rose};
 ghost use Rattle.ice_store.specs.Others.{WhereTold};
 ghost use Rattle.serde_json.specs.View.{view};
 ghost use Rattle.commit_publish.specs.Stages.{InState};
-ghost use Rattle.upkeep_top.specs.Points.{Between, noted};
-ghost use Rattle.upkeep_top.specs.Reports.{list_report};
-ghost use Rattle.upkeep_top.specs.Statements.{Ends, IsEnd, Reports, IsListedBy};
+ghost use Rattle.upkeep_top.specs.Points.{Between, tells, at, noted};
+ghost use Rattle.upkeep_top.specs.Statements.{Ends, IsEnd, OutputCounts, Reports, IsListedBy};
 ghost use Rattle.upkeep_top.specs.declared.task.Task.{Task as TheTask};
 
-use crate::report::{report_ancestors, report_move};
 use crate::task::{Task, Work};
 use commit_protocol::{Log, commit, open_table};
 use ice_store::{Alone, Clock, Ids, Place, Sink, Store, Text};
 use run_answers::{Status, status_of_error, status_of_open};
-use run_refs::{Goal, RefMove, list_ancestors};
+use run_refs::{Goal, RefMove, list_ancestors, report_ancestors};
 use std::alloc::{AllocError, Global};
 use table_metadata::{EditErr, Meta};
 
@@ -22,8 +19,7 @@ use table_metadata::{EditErr, Meta};
 fn put_report<O: Sink>(out: &mut O, report: Result<Text, AllocError>) -> Status
     ensures reports { (text : List ℕ) → IfOk report (λ t. t ≡ text) → Reports (O.contents out.old) (O.contents out.new) text result }
     ensures status { IsEnd result }
-    ensures cause { result ≡ Status.OutFault → Rose (O.faults out.old) (O.faults out.new) }
-    ensures later { O.faults out.old ≤ O.faults out.new }
+    ensures cause { OutputCounts result (O.faults out.old) (O.faults out.new) }
 {
     let Ok(report) = report else {
         return Status::OutOfMemory;
@@ -31,20 +27,6 @@ fn put_report<O: Sink>(out: &mut O, report: Result<Text, AllocError>) -> Status
     match out.put(report.inner()) {
         Ok(()) => Status::Done,
         Err(_) => Status::OutFault,
-    }
-}
-
-fn copy_goal(goal: &Goal) -> Result<Goal, AllocError>
-    ensures { IfOk result (λ copied. copied ≡ goal.now) }
-{
-    match goal {
-        Goal::Rollback { id } => Ok(Goal::Rollback { id: *id }),
-        Goal::SetCurrent { id } => Ok(Goal::SetCurrent { id: *id }),
-        Goal::SetCurrentTo { name } => Ok(Goal::SetCurrentTo { name: name.copy()? }),
-        Goal::FastForward { branch, to } => Ok(Goal::FastForward {
-            branch: branch.copy()?,
-            to: to.copy()?,
-        }),
     }
 }
 
@@ -61,15 +43,15 @@ fn run_move<S: Store<Alone>, C: Clock, I: Ids, O: Sink>(
 ) -> Status
     requires work { task.now.work ≡ Work.Move goal.now }
     requires start { WhereTold (S.past store.old) (InState (λ d. d.pending ≡ [])) }
-    ensures { Between S.past S.faults S.halted C.given I.given O.contents O.faults store.old store.new clock.old clock.new ids.old ids.new out.old out.new (noted log.old) (noted log.new) (Ends task.now result) }
+    ensures { Between (tells S.past S.faults S.halted C.given I.given O.contents O.faults) (at store.old clock.old ids.old out.old (noted log.old)) (at store.new clock.new ids.new out.new (noted log.new)) (Ends task.now result) }
 {
     let now = clock.now_ms();
-    let Ok(copied) = copy_goal(goal) else {
+    let Ok(copied) = goal.copy() else {
         return Status::OutOfMemory;
     };
     let mut change = RefMove::new(copied, now);
     match commit::<Alone, S, I, RefMove>(alloc, store, ids, now, &task.table, &mut change, log) {
-        Ok(_) => put_report(out, report_move(alloc, goal, &change)),
+        Ok(_) => put_report(out, change.report(alloc)),
         Err(e) => status_of_error(task.word, e),
     }
 }
@@ -77,8 +59,7 @@ fn run_move<S: Store<Alone>, C: Clock, I: Ids, O: Sink>(
 // lists the ancestors on opened metadata
 fn list_on<O: Sink>(alloc: Global, meta: &Meta, given: Option<i64>, out: &mut O) -> Status
     ensures listed { IsListedBy given (view meta.now) (O.contents out.old) (O.contents out.new) result }
-    ensures cause { result ≡ Status.OutFault → Rose (O.faults out.old) (O.faults out.new) }
-    ensures later { O.faults out.old ≤ O.faults out.new }
+    ensures cause { OutputCounts result (O.faults out.old) (O.faults out.new) }
 {
     match list_ancestors(alloc, meta, given) {
         Ok(ancestors) => put_report(out, report_ancestors(alloc, ancestors.inner())),
@@ -100,7 +81,7 @@ fn run_list<S: Store<Alone>, C: Clock, I: Ids, O: Sink>(
 ) -> Status
     requires work { task.now.work ≡ Work.List given }
     requires start { WhereTold (S.past store.old) (InState (λ d. d.pending ≡ [])) }
-    ensures { Between S.past S.faults S.halted C.given I.given O.contents O.faults store.old store.new clock.old clock.new ids.now ids.now out.old out.new (noted log.now) (noted log.now) (Ends task.now result) }
+    ensures { Between (tells S.past S.faults S.halted C.given I.given O.contents O.faults) (at store.old clock.old ids.now out.old (noted log.now)) (at store.new clock.new ids.now out.new (noted log.now)) (Ends task.now result) }
 {
     let _ = clock.now_ms();
     match open_table::<Alone, S>(alloc, store, &task.table) {
@@ -120,7 +101,7 @@ pub(crate) fn run_task<S: Store<Alone>, C: Clock, I: Ids, O: Sink>(
     log: &mut Log,
 ) -> Status
     requires start { WhereTold (S.past store.old) (InState (λ d. d.pending ≡ [])) }
-    ensures { Between S.past S.faults S.halted C.given I.given O.contents O.faults store.old store.new clock.old clock.new ids.old ids.new out.old out.new (noted log.old) (noted log.new) (Ends task.now result) }
+    ensures { Between (tells S.past S.faults S.halted C.given I.given O.contents O.faults) (at store.old clock.old ids.old out.old (noted log.old)) (at store.new clock.new ids.new out.new (noted log.new)) (Ends task.now result) }
 {
     match &task.work {
         Work::Move(goal) => run_move::<S, C, I, O>(alloc, task, goal, store, clock, ids, out, log),

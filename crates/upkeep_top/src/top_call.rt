@@ -4,14 +4,15 @@ ghost use Rattle.ice_store.specs.Calls.{Rose};
 ghost use Rattle.ice_store.specs.Others.{WhereTold};
 ghost use Rattle.ice_store.specs.Places.{Parts};
 ghost use Rattle.ice_store.specs.Since.{Since};
+ghost use Rattle.commit_publish.specs.Kinds.{Counts};
 ghost use Rattle.commit_publish.specs.Stages.{InState};
 ghost use Rattle.run_answers.specs.Messages.{message_line};
 ghost use Rattle.run_answers.specs.Puts.{TakesPrefix, TakesAll};
 ghost use Rattle.run_answers.specs.declared.status.Status.{Status as TheStatus};
-ghost use Rattle.upkeep_top.specs.Points.{Between, noted, no_notes, run_notes};
-ghost use Rattle.upkeep_top.specs.Runs.{EndedIfAny, Runs, TellsBadArgument, ComesExactly, IsComplete, IsSafeRun, KeepsPrefix, KeepsFiles, EachSucceeds, TellsVersions, LeavesPlaces, TellsFaultAt, TellsUnknown, MayLeave};
-ghost use Rattle.upkeep_top.specs.Statements.{Halts};
-ghost use Rattle.upkeep_top.specs.Verdicts.{IsFree};
+ghost use Rattle.upkeep_top.specs.Points.{Between, tells, at, noted, no_notes, run_notes};
+ghost use Rattle.upkeep_top.specs.Runs.{EndedIfAny, Runs, TellsBadArgument, ComesExactly, IsComplete, IsSafeRun, KeepsPrefix, KeepsFiles, EachSucceeds, TellsVersions, LeavesPlaces, TellsFaultAt, EndsUnknown, MarksRun, MayLeave};
+ghost use Rattle.upkeep_top.specs.Statements.{OutputCounts};
+ghost use Rattle.upkeep_top.specs.Verdicts.{IsFree, status_kind};
 ghost use Rattle.upkeep_top.specs.Words.{RefusesWords};
 
 use crate::statement::run_task;
@@ -33,7 +34,7 @@ fn run_tasks<S: Store<Alone>, C: Clock, I: Ids, O: Sink>(
     log: &mut Log,
 ) -> Status
     requires start { WhereTold (S.past store.old) (InState (λ d. d.pending ≡ [])) }
-    ensures { Between S.past S.faults S.halted C.given I.given O.contents O.faults store.old store.new clock.old clock.new ids.old ids.new out.old out.new (noted log.old) (noted log.new) (EndedIfAny tasks.now result) }
+    ensures { Between (tells S.past S.faults S.halted C.given I.given O.contents O.faults) (at store.old clock.old ids.old out.old (noted log.old)) (at store.new clock.new ids.new out.new (noted log.new)) (EndedIfAny tasks.now result) }
 {
     for task in tasks {
         let status = run_task::<S, C, I, O>(alloc, task, store, clock, ids, out, log);
@@ -54,7 +55,7 @@ fn run_words<S: Store<Alone>, C: Clock, I: Ids, O: Sink>(
     out: &mut O,
 ) -> Outcome
     requires start { WhereTold (S.past store.old) (InState (λ d. d.pending ≡ [])) }
-    ensures told { Between S.past S.faults S.halted C.given I.given O.contents O.faults store.old store.new clock.old clock.new ids.old ids.new out.old out.new no_notes (run_notes result) (Runs words.now result.status) }
+    ensures told { Between (tells S.past S.faults S.halted C.given I.given O.contents O.faults) (at store.old clock.old ids.old out.old no_notes) (at store.new clock.new ids.new out.new (run_notes result)) (Runs words.now result.status) }
     ensures no_call { (status : TheStatus) → RefusesWords words.now status → store.new ≡ store.old }
 {
     let mut log = Log {
@@ -95,27 +96,26 @@ pub fn run<R: AllocGlobal, S: Store<Alone>, C: Clock, I: Ids, O: Sink, X: Sink>(
     err: &mut X,
 ) -> Outcome
     requires start { WhereTold (S.past store.old) (InState (λ d. d.pending ≡ [])) }
-    ensures told { Between S.past S.faults S.halted C.given I.given O.contents O.faults store.old store.new clock.old clock.new ids.old ids.new out.old out.new no_notes (run_notes result) (Runs words.now result.status) }
+    ensures told { Between (tells S.past S.faults S.halted C.given I.given O.contents O.faults) (at store.old clock.old ids.old out.old no_notes) (at store.new clock.new ids.new out.new (run_notes result)) (Runs words.now result.status) }
     ensures refused { (status : TheStatus) → RefusesWords words.now status → (result.status ≡ status) ⊎ (result.status ≡ Status.OutOfMemory) }
     ensures no_call { (status : TheStatus) → RefusesWords words.now status → store.new ≡ store.old }
     ensures bad_statement { (word at : ℕ) → result.status ≡ Status.BadStatement word at → RefusesWords words.now result.status }
-    ensures bad_argument { Since (S.past store.old) (S.past store.new) (TellsBadArgument words.now result.status) }
+    ensures bad_argument { TellsBadArgument words.now result.status }
     ensures exactly { (asked : TheStatus) → (IsFree asked → ⊥) → ComesExactly words.now result.status (S.past store.old) (S.past store.new) asked }
     ensures complete { IsComplete words.now result.status (S.past store.old) (S.past store.new) (Rose (S.faults store.old) (S.faults store.new)) (Rose (O.faults out.old) (O.faults out.new)) }
-    ensures store_fault { (place : Parts) → result.status ≡ Status.StoreFault place → Rose (S.faults store.old) (S.faults store.new) }
-    ensures unknown { (version : ℕ) → result.status ≡ Status.CommitUnknown version → Rose (S.faults store.old) (S.faults store.new) }
-    ensures fault_place { (place : Parts) → result.status ≡ Status.StoreFault place → TellsFaultAt words.now place result.left }
-    ensures renamed { (version : ℕ) → result.status ≡ Status.CommitUnknown version → Since (S.past store.old) (S.past store.new) (TellsUnknown words.now version result.left) }
-    ensures out_fault { result.status ≡ Status.OutFault → Rose (O.faults out.old) (O.faults out.new) }
+    ensures faults { Counts (status_kind result.status) (S.faults store.old) (S.faults store.new) }
+    ensures fault_place { (place : Parts) → result.status ≡ Status.StoreFault place → TellsFaultAt words.now place }
+    ensures unknown { (version : ℕ) → result.status ≡ Status.CommitUnknown version → Since (S.past store.old) (S.past store.new) (EndsUnknown words.now version) }
+    ensures out_faults { OutputCounts result.status (O.faults out.old) (O.faults out.new) }
     ensures safe { Since (S.past store.old) (S.past store.new) (IsSafeRun words.now) }
     ensures prefix { Since (S.past store.old) (S.past store.new) (KeepsPrefix words.now) }
     ensures files { Since (S.past store.old) (S.past store.new) (KeepsFiles words.now) }
     ensures successors { Since (S.past store.old) (S.past store.new) (EachSucceeds words.now result.committed) }
-    ensures committed { Since (S.past store.old) (S.past store.new) (TellsVersions words.now result.status result.committed) }
-    ensures left { Since (S.past store.old) (S.past store.new) (LeavesPlaces words.now result.committed result.left (Rose (S.faults store.old) (S.faults store.new))) }
+    ensures committed { Since (S.past store.old) (S.past store.new) (TellsVersions words.now (status_kind result.status) result.committed) }
+    ensures left { Since (S.past store.old) (S.past store.new) (LeavesPlaces result.committed result.left (Rose (S.faults store.old) (S.faults store.new)) (S.halted store.new)) }
     ensures nothing_left { (MayLeave result.status → ⊥) → result.left ≡ [] }
     ensures rests { result.status ≡ Status.Done → WhereTold (S.past store.new) (InState (λ d. d.pending ≡ [])) }
-    ensures halted { Halts (S.halted store.old) (S.halted store.new) (S.past store.new) }
+    ensures halted { MarksRun words.now (status_kind result.status) (S.halted store.old) (S.halted store.new) (S.past store.new) }
     ensures message { TakesPrefix (X.contents err.old) (X.contents err.new) (message_line result.status) }
     ensures whole_message { (Rose (X.faults err.old) (X.faults err.new) → ⊥) → TakesAll (X.contents err.old) (X.contents err.new) (message_line result.status) }
 {

@@ -1,15 +1,10 @@
--- What a statement's report says (after Iceberg's Spark procedures).
-use Rattle.std.specs.Prelude.{◌≡◌, ℕ, ℤ, List, [], ◌∷◌, map, codes, Option, Ok}
+-- What the reports of the ref procedures say (after Iceberg's Spark procedures).
+use Rattle.std.specs.Prelude.{ℕ, ℤ, List, [], ◌∷◌, map, codes, Option}
 use Rattle.std.specs.Fmt.{decimal, signed_decimal}
-use Rattle.serde_json.specs.Data.{Data}
 use Rattle.run_answers.specs.Reports.{report_text, id_cell}
-use Rattle.run_refs.specs.Ancestors.{Lists}
-use Rattle.run_refs.specs.Moves.{HasSeen}
 use Rattle.run_refs.specs.declared.ancestors.Ancestor.{Ancestor}
 use Rattle.run_refs.specs.declared.goal.Goal.{Goal}
 use Rattle.run_refs.specs.declared.goal.Goal.TheVariants.{Rollback, SetCurrent, SetCurrentTo, FastForward}
-use Rattle.upkeep_top.specs.declared.task.Work.{Work}
-use Rattle.upkeep_top.specs.declared.task.Work.TheVariants.{Move, List as Listing}
 
 -- the columns of a report of the current snapshot
 abbrev pub snapshot_columns : List (List ℕ)
@@ -41,8 +36,3 @@ ancestor_row a = signed_decimal a.id ∷ decimal a.ms ∷ []
 -- each snapshot of the walk with its moment
 abbrev pub list_report : List Ancestor → List ℕ
 list_report rows = report_text ancestor_columns (map ancestor_row rows)
-
--- the report of the work on a table's metadata
-abbrev pub Says : Work → Data → List ℕ → Type 0
-Says (Move goal) tree text = (previous : Option ℤ) × (id : ℤ) × HasSeen goal tree previous id × (text ≡ move_report goal previous id)
-Says (Listing given) tree text = (rows : List Ancestor) × Lists given tree (Ok rows) × (text ≡ list_report rows)

@@ -1,11 +1,12 @@
-//! The reports of the statements (after Iceberg's Spark procedures).
+//! The reports of the ref procedures (after Iceberg's Spark procedures).
 ghost use Rattle.std.specs.Prelude.{◌≡◌, ◌∷◌, [], map, IfOk};
-ghost use Rattle.upkeep_top.specs.Reports.{ancestor_row, branch_columns, move_report, list_report, ref_row, snapshot_columns};
+ghost use Rattle.run_refs.specs.Reports.{ancestor_row, branch_columns, move_report, list_report, ref_row, snapshot_columns};
 ghost use Rattle.run_answers.specs.Reports.{report_text};
 
+use crate::ancestors::Ancestor;
+use crate::goal::Goal;
 use ice_store::{Items, Text, TextList};
 use run_answers::{CellRows, columns, id_cell, number_cell, optional_id_cell, report};
-use run_refs::{Ancestor, Goal, RefMove};
 use std::alloc::{AllocError, Global};
 
 fn ref_row(alloc: Global, previous: Option<i64>, id: i64) -> Result<Vec<Text>, AllocError>
@@ -65,14 +66,17 @@ fn report_branch(
 }
 
 /// Where a ref was and where it is now; of a branch with its name.
-pub(crate) fn report_move(alloc: Global, goal: &Goal, change: &RefMove) -> Result<Text, AllocError>
-    ensures { IfOk result (λ text. text ≡ move_report goal.now change.entry.now.previous change.entry.now.id) }
+pub(crate) fn report_move(
+    alloc: Global,
+    goal: &Goal,
+    previous: Option<i64>,
+    id: i64,
+) -> Result<Text, AllocError>
+    ensures { IfOk result (λ text. text ≡ move_report goal.now previous id) }
 {
     match goal {
-        Goal::FastForward { branch, .. } => {
-            report_branch(alloc, branch, change.previous, change.id)
-        }
-        _ => report_snapshots(alloc, change.previous, change.id),
+        Goal::FastForward { branch, .. } => report_branch(alloc, branch, previous, id),
+        _ => report_snapshots(alloc, previous, id),
     }
 }
 
@@ -96,7 +100,7 @@ fn ancestor_rows(alloc: Global, ancestors: &[Ancestor]) -> Result<CellRows, Allo
 }
 
 /// Each snapshot of a walk with its moment.
-pub(crate) fn report_ancestors(alloc: Global, ancestors: &[Ancestor]) -> Result<Text, AllocError>
+pub fn report_ancestors(alloc: Global, ancestors: &[Ancestor]) -> Result<Text, AllocError>
     ensures { IfOk result (λ text. text ≡ list_report ancestors.now) }
 {
     let names = columns(alloc, &["snapshot_id", "timestamp"])?;

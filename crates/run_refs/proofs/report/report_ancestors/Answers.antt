@@ -1,7 +1,7 @@
 use Rattle.std.proofs.Common.{◌≡◌, IfOk, List, ℕ, subst}
 use Rattle.run_answers.specs.Reports.{report_text}
-use Rattle.upkeep_top.specs.Reports.{ancestor_columns}
-use Rattle.upkeep_top.proofs.report.report_ancestors.Goals as goal
+use Rattle.run_refs.specs.Reports.{ancestor_columns}
+use Rattle.run_refs.proofs.report.report_ancestors.Goals as goal
 
 pub returns : goal.returns
 returns c =

@@ -1,8 +1,8 @@
 use Rattle.std.proofs.Common.{◌≡◌, ◌∷◌, [], IfOk, ℕ, ℤ, List, subst, FitsSigned, w64}
 use Rattle.std.proofs.lemmas.Int.{to_z-of_z}
 use Rattle.run_answers.specs.Reports.{report_text}
-use Rattle.upkeep_top.specs.Reports.{branch_columns, ref_row}
-use Rattle.upkeep_top.proofs.report.report_branch.Goals as goal
+use Rattle.run_refs.specs.Reports.{branch_columns, ref_row}
+use Rattle.run_refs.proofs.report.report_branch.Goals as goal
 
 pub returns : goal.returns
 returns c =
