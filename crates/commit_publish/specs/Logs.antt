@@ -1,5 +1,5 @@
 -- What a publish tells besides: the count of faults, the mark of a failed call, and what the log says of it.
-use Rattle.std.specs.Prelude.{◌≡◌, ℕ, List, [], ◌∷◌, Option, Some, Result, Ok, Err}
+use Rattle.std.specs.Prelude.{◌≡◌, ℕ, List, [], ◌∷◌, length, Option, Some, Result, Ok, Err}
 use Rattle.ice_store.specs.Places.{Parts}
 use Rattle.ice_store.specs.Others.{WhereTold}
 use Rattle.ice_store.specs.Calls.{Rose, failure_of}
@@ -9,6 +9,7 @@ use Rattle.ice_store.specs.declared.history.StoreCall.{StoreCall}
 use Rattle.ice_store.specs.declared.history.StoreCall.TheVariants.{Take}
 use Rattle.ice_store.specs.declared.store.StoreErr.{StoreErr}
 use Rattle.ice_store.specs.declared.store.StoreErr.TheVariants.{Failed, Memory}
+use Rattle.commit_publish.specs.Left.{Leaves}
 use Rattle.commit_publish.specs.Steps.{step_of}
 use Rattle.commit_publish.specs.declared.steps.PublishCall.{PublishCall}
 use Rattle.commit_publish.specs.declared.steps.PublishCall.TheVariants as calls
@@ -74,3 +75,7 @@ left_by draft target (Ok u) = []
 left_by draft target (Err NameTaken) = []
 left_by draft target (Err Contended) = []
 left_by draft target (Err (Stopped e)) = left_at draft target e.call e.cause
+
+-- the steps of a publish left exactly the places that its answer says, where a published version counts as committed
+abbrev pub PublishNotes : Parts → Parts → ℕ → Result (Unit {0}) PublishErr → ℕ → ℕ → Option Failure → Past → Past → Type 0
+PublishNotes draft target version result before now mark = Leaves (Rose before now) mark (length (published_by version result)) [] (left_by draft target result)
