@@ -6,4 +6,4 @@ use Rattle.commit_protocol.proofs.verdict.one_commit.Goals as goal
 pub returns : goal.returns
 returns g c =
     let x = c.args.change.now in
-    λ now before values decided. one_commit_of c.args.table.now now (g.X.Change.meanings x x) (Gives before (Some values)) decided (one_given before values)
+    λ now before values decided Needs. one_commit_of Needs c.args.table.now now (g.X.Change.meanings x x) (Gives before (Some values)) decided (one_given before values)
