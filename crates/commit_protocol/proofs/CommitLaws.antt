@@ -151,7 +151,7 @@ module _ (table : Parts) (allows : Past → Step → Type 0) (mannered : IsManne
       unfolding drafted
       published_err publishes.NameTaken left at on limit = inr (record { limit = limit; drafted = drafted w is at on; place_is = refl; left = left })
       published_err publishes.Contended left at on limit = (next_version_is at on, limit, record { drafted = drafted w is at on; left = left })
-      published_err (publishes.Stopped e) left = stopped e.call e.cause left
+      published_err (publishes.Stopped e) left at on limit = stopped e.call e.cause left at on limit
 
     pub moved_in : (w : Written) (is : IsWritten table base built now id w) (o a : Option Past) (r : Result (Unit {0}) PublishErr)
         → Since o a (PublishLeaves (rules_of metadata_content w.route.table allows) w.route w.bytes r) → Since o a (PublishLeaves (metadata_rules table allows) w.route w.bytes r)
