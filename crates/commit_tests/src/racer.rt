@@ -90,11 +90,7 @@ fn is_table(alloc: Global, table: &Place, bytes: &[u8]) -> Result<bool, AllocErr
 }
 
 // the number of the version after the last one; none where there is a number beyond 64 bits
-fn next_version(
-    alloc: Global,
-    table: &Place,
-    history: &History,
-) -> Result<Option<u64>, AllocError>
+fn next_version(alloc: Global, table: &Place, history: &History) -> Result<Option<u64>, AllocError>
     ensures { IfOk result (λ next. IfSome next (λ n. n ≡ version (number_in table.now) (replay history.now).files + 1)) }
 {
     let listed = history.list(alloc, &metadata_folder(alloc, table)?)?;
@@ -110,10 +106,7 @@ fn greatest_in(table: &Place, listed: &[Listed]) -> Option<u64>
 {
     let mut last = 0;
     for i in 0..listed.len() {
-        let number = version_number(table, &listed[i].place)?;
-        if number > last {
-            last = number;
-        }
+        last = last.max(version_number(table, &listed[i].place)?);
     }
     Some(last)
 }

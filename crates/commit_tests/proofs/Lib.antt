@@ -1,0 +1,2 @@
+pub mod MainLaws
+pub mod PublishingLaws
