@@ -1,17 +1,20 @@
 //! Another writer of a table, who publishes the next version before one call of the store.
-ghost use Rattle.std.specs.Prelude.{◌≡◌, ℕ, IfOk, IfSome, IsTrue};
+ghost use Rattle.std.specs.Prelude.{◌≡◌, ℕ, ◌+◌, List, Option, IfOk, IfSome, IsTrue};
 ghost use Rattle.ice_store.specs.History.{replay};
 ghost use Rattle.ice_store.specs.Others.{Allowed};
+ghost use Rattle.ice_store.specs.Places.{Parts};
 ghost use Rattle.store_memory.specs.Neighbours.{by_them};
 ghost use Rattle.commit_history.specs.Listings.{greatest};
 ghost use Rattle.commit_history.specs.Mannered.{AllowsStep};
+ghost use Rattle.commit_history.specs.Readings.{reading_of};
 ghost use Rattle.commit_history.specs.Tables.{version};
 ghost use Rattle.commit_history.specs.Versions.{number_in};
-ghost use Rattle.commit_protocol.specs.Metadata.{IsTableOf, metadata_reading};
+ghost use Rattle.commit_protocol.specs.Metadata.{IsTableOf};
 ghost use Rattle.commit_tests.specs.Publishing.{publishes};
 
 use crate::writers::Writers;
-use commit_history::listing_tells;
+use commit_history::{TableReading, listing_tells};
+use commit_protocol::Metadata;
 use commit_versions::{FILE_LIMIT, draft_place, metadata_folder, version_number, version_place};
 use ice_store::{Bytes, Items, Listed, Place, Step, StepList};
 use std::alloc::{AllocError, Global};
@@ -41,34 +44,12 @@ impl Neighbour<Writers> for Racer {
     ) -> Result<StepList, AllocError> {
         let call = self.calls;
         self.calls = call.saturating_add(1);
-        if call != self.turn {
+        let table = &self.writers.table;
+        if call != self.turn || !is_table(alloc, table, self.bytes.inner())? {
             return Ok(Items::empty(alloc));
         }
-        publish(alloc, &self.writers.table, &self.bytes, history)
+        publish::<Metadata>(alloc, table, &self.bytes, history)
     }
-}
-
-// the steps of a publish of these bytes, or none where it isn't allowed
-fn publish(
-    alloc: Global,
-    table: &Place,
-    bytes: &Bytes,
-    history: &History,
-) -> Result<StepList, AllocError>
-    ensures { IfOk result (λ steps. (ms : ℕ) → Allowed (AllowsStep (metadata_reading table.now)) history.now (by_them ms steps)) }
-{
-    if !is_table(alloc, table, bytes.inner())? {
-        return Ok(Items::empty(alloc));
-    }
-    let Some(next) = next_version(alloc, table, history)? else {
-        return Ok(Items::empty(alloc));
-    };
-    let from = draft_place(alloc, table, 7000)?;
-    let to = version_place(alloc, table, next)?;
-    if history.find(&from).is_some() || history.find(&to).is_some() {
-        return Ok(Items::empty(alloc));
-    }
-    publish_steps(alloc, from, to, bytes)
 }
 
 // whether they are metadata of the table, and no longer than a metadata file may be
@@ -87,6 +68,27 @@ fn is_table(alloc: Global, table: &Place, bytes: &[u8]) -> Result<bool, AllocErr
         Ok(place) => Ok(place.is(table)),
         Err(_) => Ok(false),
     }
+}
+
+// the steps of a publish of good bytes, or none where it isn't allowed
+fn publish<R: TableReading>(
+    alloc: Global,
+    table: &Place,
+    bytes: &Bytes,
+    history: &History,
+) -> Result<StepList, AllocError>
+    requires good { (others : Parts → Option (List ℕ)) → (R.content table.now).good bytes.now others }
+    ensures { IfOk result (λ steps. (ms : ℕ) → Allowed (AllowsStep (reading_of R.content table.now)) history.now (by_them ms steps)) }
+{
+    let Some(next) = next_version(alloc, table, history)? else {
+        return Ok(Items::empty(alloc));
+    };
+    let from = draft_place(alloc, table, 7000)?;
+    let to = version_place(alloc, table, next)?;
+    if history.find(&from).is_some() || history.find(&to).is_some() {
+        return Ok(Items::empty(alloc));
+    }
+    publish_steps(alloc, from, to, bytes)
 }
 
 // the number of the version after the last one; none where there is a number beyond 64 bits
