@@ -240,10 +240,10 @@ pub record IsDecided (meanings : Meanings) : Type 0 where
 abbrev pub IsOneDrawn : (ℕ → Type 0) → Type 0
 IsOneDrawn Drawn = (a b : ℕ) → Drawn a → Drawn b → a ≡ b
 
--- two told verdicts of one commit are one, whatever is needed of a base
+-- two told verdicts of one commit are one
 abbrev pub IsOneCommit : Parts → ℕ → Meanings → (ℕ → Type 0) → Type 0
-IsOneCommit table now meanings Drawn = (Needs : Data → Type 0) (files : List Held) (r s : Result Committed CommitErr) → IsTold r → IsTold s
-    → CommitVerdict Needs meanings Drawn table now files r → CommitVerdict Needs meanings Drawn table now files s → r ≡ s
+IsOneCommit table now meanings Drawn = (files : List Held) (r s : Result Committed CommitErr) → IsTold r → IsTold s
+    → CommitVerdict HasVersionLimit meanings Drawn table now files r → CommitVerdict HasVersionLimit meanings Drawn table now files s → r ≡ s
 
 -- Exactly.
 
