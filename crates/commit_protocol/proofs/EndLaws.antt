@@ -24,10 +24,11 @@ use Rattle.commit_publish.specs.declared.publish.PublishErr.TheVariants as publi
 use Rattle.commit_versions.specs.Opening.{OpenMarks}
 use Rattle.commit_versions.specs.declared.types.OpenErr.{OpenErr}
 use Rattle.commit_protocol.specs.Attempts.{TellsLimit}
-use Rattle.commit_protocol.specs.Ends.{LeavesBy, DrawsBy, IsDraft}
+use Rattle.commit_protocol.specs.Ends.{Adds, DrawsBy, IsDraft, IsDraftOrBoth, IsPublishFault, LeavesBy}
 use Rattle.commit_protocol.specs.Kinds.{commit_kind}
 use Rattle.commit_protocol.specs.Written.{IsUnwritten, commit_error_by, stop_error, draft_at, version_at}
 use Rattle.commit_protocol.specs.declared.committing.Base.{Base}
+use Rattle.commit_protocol.specs.declared.errors.Refusal.{Refusal}
 use Rattle.commit_protocol.specs.declared.errors.AttemptErr.{AttemptErr}
 use Rattle.commit_protocol.specs.declared.errors.AttemptErr.TheVariants as attempts
 use Rattle.commit_protocol.specs.declared.errors.CommitErr.{CommitErr}
@@ -85,6 +86,14 @@ module _ (place : Parts) where
   limit_opens_nothing e opening (inl told) is = absurd (cc (told, is))
   limit_opens_nothing e opening (inr told) is = absurd (cc (told, is))
 
+  pub limit_refuses_nothing : (e : CommitErr) (refusal : Refusal) → TellsLimit place e → e ≡ Attempt (attempts.Refused refusal) → ⊥
+  limit_refuses_nothing e refusal (inl told) is = absurd (cc (told, is))
+  limit_refuses_nothing e refusal (inr told) is = absurd (cc (told, is))
+
+  pub limit_no_fault : (e : CommitErr) (other : Parts) → TellsLimit place e → e ≡ Attempt (attempts.Read (StoreFault other)) → ⊥
+  limit_no_fault e other (inl told) is = absurd (cc (told, is))
+  limit_no_fault e other (inr told) is = absurd (cc (told, is))
+
 -- A file that isn't drawn up.
 
 module _ (table : Parts) (base : Base) (built : Data) (now id : ℕ) where
@@ -120,6 +129,12 @@ module _ (table : Parts) (base : Base) (built : Data) (now id : ℕ) where
   unwritten_draws (attempts.Read (Unsupported place what)) before after u drawn = inr (id, drawn)
   unwritten_draws (attempts.Read (StoreFault place)) before after u drawn = absurd u
   unwritten_draws (attempts.Read Memory) before after u drawn = inr (id, drawn)
+
+  pub unwritten_plainly : (e : AttemptErr) (place : Parts) → Unwritten e → e ≡ attempts.Read (StoreFault place) → ⊥
+  unwritten_plainly e place u is = subst (λ (x : AttemptErr). Unwritten x) is u
+
+  pub unwritten_refuses_nothing : (e : AttemptErr) (refusal : Refusal) → Unwritten e → e ≡ attempts.Refused refusal → ⊥
+  unwritten_refuses_nothing e refusal u is = subst (λ (x : AttemptErr). Unwritten x) is u
 
 -- A publish that did not end.
 
@@ -158,6 +173,46 @@ module _ (draft table : Parts) (version : ℕ) where
   publish_opens_nothing publishes.NameTaken opening is = absurd (cc (is))
   publish_opens_nothing publishes.Contended opening is = absurd (cc (is))
   publish_opens_nothing (publishes.Stopped e) opening is = stop_opens_nothing e.call e.cause opening is
+
+  stop_refuses_nothing : (call : PublishCall) (cause : StoreErr) (refusal : Refusal) → stop_error call cause draft table version ≡ Attempt (attempts.Refused refusal) → ⊥
+  stop_refuses_nothing call causes.Memory refusal is = absurd (cc (is))
+  stop_refuses_nothing asked.Create causes.Failed refusal is = absurd (cc (is))
+  stop_refuses_nothing asked.Append causes.Failed refusal is = absurd (cc (is))
+  stop_refuses_nothing asked.Seal causes.Failed refusal is = absurd (cc (is))
+  stop_refuses_nothing asked.SyncDraft causes.Failed refusal is = absurd (cc (is))
+  stop_refuses_nothing asked.Rename causes.Failed refusal is = absurd (cc (is))
+  stop_refuses_nothing asked.SyncRename causes.Failed refusal is = absurd (cc (is))
+  stop_refuses_nothing asked.Remove causes.Failed refusal is = absurd (cc (is))
+  stop_refuses_nothing asked.SyncRemoval causes.Failed refusal is = absurd (cc (is))
+
+  pub publish_refuses_nothing : (e : PublishErr) (refusal : Refusal) → told_error e ≡ Attempt (attempts.Refused refusal) → ⊥
+  publish_refuses_nothing publishes.NameTaken refusal is = absurd (cc (is))
+  publish_refuses_nothing publishes.Contended refusal is = absurd (cc (is))
+  publish_refuses_nothing (publishes.Stopped e) refusal is = stop_refuses_nothing e.call e.cause refusal is
+
+  module _ (Drawn : ℕ → Type 0) (id : ℕ) (drawn : Drawn id) (draft_is : draft ≡ draft_at table id) (place : Parts) where
+    on_draft : draft ≡ place → IsPublishFault Drawn table place
+    on_draft same = inr (id, drawn, sym same ∙ draft_is)
+
+    on_table : table ≡ place → IsPublishFault Drawn table place
+    on_table same = inl (sym same)
+
+    stop_place : (call : PublishCall) (cause : StoreErr) → stop_error call cause draft table version ≡ Attempt (attempts.Read (StoreFault place)) → IsPublishFault Drawn table place
+    stop_place call causes.Memory is = absurd (cc (is))
+    stop_place asked.Create causes.Failed is = on_draft (cc (is))
+    stop_place asked.Append causes.Failed is = on_draft (cc (is))
+    stop_place asked.Seal causes.Failed is = on_draft (cc (is))
+    stop_place asked.SyncDraft causes.Failed is = on_table (cc (is))
+    stop_place asked.Rename causes.Failed is = absurd (cc (is))
+    stop_place asked.SyncRename causes.Failed is = absurd (cc (is))
+    stop_place asked.Remove causes.Failed is = on_draft (cc (is))
+    stop_place asked.SyncRemoval causes.Failed is = on_table (cc (is))
+
+    -- a fault of a publish is told at the table or at the new file
+    pub publish_place : (e : PublishErr) → told_error e ≡ Attempt (attempts.Read (StoreFault place)) → IsPublishFault Drawn table place
+    publish_place publishes.NameTaken is = absurd (cc (is))
+    publish_place publishes.Contended is = absurd (cc (is))
+    publish_place (publishes.Stopped e) is = stop_place e.call e.cause is
 
   module _ (before after : Option (List ℕ)) (one : (id : ℕ) × Gives before after id) where
     stop_draws : (call : PublishCall) (cause : StoreErr) → DrawsBy [] (Some (stop_error call cause draft table version)) before after
@@ -205,14 +260,14 @@ module _ (draft table : Parts) (version : ℕ) where
       publish_marks (publishes.Stopped e) m = stop_marks e.call e.cause m
 
     module _ (Drawn : ℕ → Type 0) (id : ℕ) (drawn : Drawn id) (draft_is : draft ≡ draft_at table id) (target_is : target ≡ version_at table version) (had has : List Parts) where
-      abbrev pub LeftOne : Type 0
-      LeftOne = (left : List Parts) × (has ≡ had ++ left) × IsDraft Drawn table left
+      one_left : has ≡ had ++ draft ∷ [] → Adds (IsDraft Drawn table) had has
+      one_left is = (draft ∷ [], is, (id, drawn, ap (λ (p : Parts). p ∷ []) draft_is))
 
-      one_left : has ≡ had ++ draft ∷ [] → LeftOne
-      one_left is = (draft ∷ [], is, (id, version, drawn, inl (ap (λ (p : Parts). p ∷ []) draft_is)))
+      one_unknown : has ≡ had ++ draft ∷ [] → Adds (IsDraftOrBoth Drawn table version) had has
+      one_unknown is = (draft ∷ [], is, inl (id, drawn, ap (λ (p : Parts). p ∷ []) draft_is))
 
-      two_left : has ≡ had ++ draft ∷ target ∷ [] → LeftOne
-      two_left is = (draft ∷ target ∷ [], is, (id, version, drawn, inr (ap (λ (p : Parts). p ∷ target ∷ []) draft_is ∙ ap (λ (p : Parts). draft_at table id ∷ p ∷ []) target_is)))
+      two_left : has ≡ had ++ draft ∷ target ∷ [] → Adds (IsDraftOrBoth Drawn table version) had has
+      two_left is = (draft ∷ target ∷ [], is, inr (id, drawn, ap (λ (p : Parts). p ∷ target ∷ []) draft_is ∙ ap (λ (p : Parts). draft_at table id ∷ p ∷ []) target_is))
 
       none_left : has ≡ had ++ [] → has ≡ had
       none_left is = is ∙ append-nil had
@@ -231,7 +286,7 @@ module _ (draft table : Parts) (version : ℕ) where
       stop_leaves asked.Seal causes.Failed is = inr (one_left is)
       stop_leaves asked.SyncDraft causes.Failed is = inr (one_left is)
       stop_leaves asked.Rename causes.Failed is = two_left is
-      stop_leaves asked.SyncRename causes.Failed is = one_left is
+      stop_leaves asked.SyncRename causes.Failed is = one_unknown is
       stop_leaves asked.Remove causes.Failed is = inr (one_left is)
       stop_leaves asked.SyncRemoval causes.Failed is = inl (none_left is)
 

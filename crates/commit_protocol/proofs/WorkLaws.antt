@@ -119,11 +119,11 @@ module _ (successor : Data → Data → Type 0) (Drawn : ℕ → Type 0) (table 
   -- nothing was done
   took_none : (Fails : StoreCall → Type 0) (kind : Kind) → LooksBy Fails kind → Took Fails kind [] [] []
   took_none Fails kinds.Done l = (refl, refl)
-  took_none Fails kinds.Told l = (refl, refl)
-  took_none Fails (kinds.Fault place) l = inl (l, (refl, refl))
+  took_none Fails kinds.Told l = (refl, (refl, refl))
+  took_none Fails (kinds.Fault place) l = (refl, inl (l, (refl, refl)))
   took_none Fails (kinds.Unknown version) l = absurd l
   took_none Fails (kinds.Lost version) l = absurd l
-  took_none Fails kinds.Memory l = inl (refl, refl)
+  took_none Fails kinds.Memory l = (refl, inl (refl, refl))
 
   pub works_none : (rules : Rules) (K : Past → Type 0) (error : Option CommitErr) (mark : Option Failure) (had has : List Parts) (old new : Past) → has ≡ had → LooksBy (Failing mark new) (error_kind error)
       → Ran rules (Exactly []) K old new → Work (record { versions = []; error = error }) mark had has old new
@@ -149,36 +149,36 @@ module _ (successor : Data → Data → Type 0) (Drawn : ℕ → Type 0) (table 
 
   -- A publish.
   module _ (p : P) (version : ℕ) (is : version ≡ number_of successor Drawn table now IsBase p) (Fails : StoreCall → Type 0) (steps : List Step) where
-    abbrev pub draft : Parts
-    draft = draft_of successor Drawn table now IsBase p
+    abbrev pub at_draft : Parts
+    at_draft = draft_of successor Drawn table now IsBase p
 
-    abbrev pub target : Parts
-    target = target_of successor Drawn table now IsBase p
+    abbrev pub at_target : Parts
+    at_target = target_of successor Drawn table now IsBase p
 
     abbrev pub Made : Result (Unit {0}) PublishErr → Type 0
-    Made r = MadeBy draft target p.bytes r steps
+    Made r = MadeBy at_draft at_target p.bytes r steps
 
     abbrev pub Failed : Result (Unit {0}) PublishErr → Type 0
-    Failed r = FailsBy Fails draft target p.bytes r
+    Failed r = FailsBy Fails at_draft at_target p.bytes r
 
     took_published : Made (Ok tt) → Took Fails kinds.Done (version ∷ []) steps []
     took_published made = (refl, record { publish = p; version_is = is; steps_are = made }, refl)
 
-    took_stopped : (call : PublishCall) (cause : StoreErr) → StopsAt draft target p.bytes call cause steps → StopFails Fails (step_of draft target p.bytes call) cause
-        → Took Fails (commit_kind (stop_error call cause draft table version)) [] steps (left_by draft target (Err (publishes.Stopped (record { call = call; cause = cause }))))
-    took_stopped call causes.Memory made fails = inr (p, call, record { steps_are = made; left_is = refl })
-    took_stopped asked.Create causes.Failed made fails = inr (p, record { call = asked.Create; kind = refl; failed = fails; stopped = record { steps_are = made; left_is = refl } })
-    took_stopped asked.Append causes.Failed made fails = inr (p, record { call = asked.Append; kind = refl; failed = fails; stopped = record { steps_are = made; left_is = refl } })
-    took_stopped asked.Seal causes.Failed made fails = inr (p, record { call = asked.Seal; kind = refl; failed = fails; stopped = record { steps_are = made; left_is = refl } })
-    took_stopped asked.SyncDraft causes.Failed made fails = inr (p, record { call = asked.SyncDraft; kind = refl; failed = fails; stopped = record { steps_are = made; left_is = refl } })
-    took_stopped asked.Rename causes.Failed made fails = (p, is, record { call = asked.Rename; kind = refl; failed = fails; stopped = record { steps_are = made; left_is = refl } })
-    took_stopped asked.SyncRename causes.Failed made fails = (p, is, record { call = asked.SyncRename; kind = refl; failed = fails; stopped = record { steps_are = made; left_is = refl } })
-    took_stopped asked.Remove causes.Failed made fails = inr (p, record { call = asked.Remove; kind = refl; failed = fails; stopped = record { steps_are = made; left_is = refl } })
-    took_stopped asked.SyncRemoval causes.Failed made fails = inr (p, record { call = asked.SyncRemoval; kind = refl; failed = fails; stopped = record { steps_are = made; left_is = refl } })
+    took_stopped : (call : PublishCall) (cause : StoreErr) → StopsAt at_draft at_target p.bytes call cause steps → StopFails Fails (step_of at_draft at_target p.bytes call) cause
+        → Took Fails (commit_kind (stop_error call cause at_draft table version)) [] steps (left_by at_draft at_target (Err (publishes.Stopped (record { call = call; cause = cause }))))
+    took_stopped call causes.Memory made fails = (refl, inr (p, call, record { steps_are = made; left_is = refl }))
+    took_stopped asked.Create causes.Failed made fails = (refl, inr (p, record { call = asked.Create; kind = refl; failed = fails; stopped = record { steps_are = made; left_is = refl } }))
+    took_stopped asked.Append causes.Failed made fails = (refl, inr (p, record { call = asked.Append; kind = refl; failed = fails; stopped = record { steps_are = made; left_is = refl } }))
+    took_stopped asked.Seal causes.Failed made fails = (refl, inr (p, record { call = asked.Seal; kind = refl; failed = fails; stopped = record { steps_are = made; left_is = refl } }))
+    took_stopped asked.SyncDraft causes.Failed made fails = (refl, inr (p, record { call = asked.SyncDraft; kind = refl; failed = fails; stopped = record { steps_are = made; left_is = refl } }))
+    took_stopped asked.Rename causes.Failed made fails = (refl, (p, is, record { call = asked.Rename; kind = refl; failed = fails; stopped = record { steps_are = made; left_is = refl } }))
+    took_stopped asked.SyncRename causes.Failed made fails = (refl, (p, is, record { call = asked.SyncRename; kind = refl; failed = fails; stopped = record { steps_are = made; left_is = refl } }))
+    took_stopped asked.Remove causes.Failed made fails = (refl, inr (p, record { call = asked.Remove; kind = refl; failed = fails; stopped = record { steps_are = made; left_is = refl } }))
+    took_stopped asked.SyncRemoval causes.Failed made fails = (refl, inr (p, record { call = asked.SyncRemoval; kind = refl; failed = fails; stopped = record { steps_are = made; left_is = refl } }))
 
-    took_failed : (e : PublishErr) → Made (Err e) → Failed (Err e) → Took Fails (commit_kind (commit_error_by e draft table version)) [] steps (left_by draft target (Err e))
-    took_failed publishes.NameTaken made fails = (made, refl)
-    took_failed publishes.Contended made fails = (record { publish = p; version_is = is; steps_are = made }, refl)
+    took_failed : (e : PublishErr) → Made (Err e) → Failed (Err e) → Took Fails (commit_kind (commit_error_by e at_draft table version)) [] steps (left_by at_draft at_target (Err e))
+    took_failed publishes.NameTaken made fails = (refl, (made, refl))
+    took_failed publishes.Contended made fails = (refl, record { publish = p; version_is = is; steps_are = made }, refl)
     took_failed (publishes.Stopped e) made fails = took_stopped e.call e.cause made fails
 
   module _ (p : P) (version : ℕ) (is : version ≡ number_of successor Drawn table now IsBase p) (mark : Option Failure) (had has : List Parts) (old new : Past) where
@@ -288,12 +288,16 @@ module _ (S T : Data → Data → Type 0) (Drawn : ℕ → Type 0) (table : Part
   took_turned Fails kinds.Done [] steps left t = t
   took_turned Fails kinds.Done (v ∷ versions) steps left t = (t.0, published_turned v steps t.1, t.2)
   took_turned Fails kinds.Told versions steps left t = t
-  took_turned Fails (kinds.Fault place) versions steps left (inl t) = inl t
-  took_turned Fails (kinds.Fault place) versions steps left (inr t) = inr (turned t.0, failed_turned Fails _ t.0 steps left t.1)
-  took_turned Fails (kinds.Unknown version) versions steps left t = (turned t.0, t.1, failed_turned Fails _ t.0 steps left t.2)
-  took_turned Fails (kinds.Lost version) versions steps left t = (beaten_turned version steps t.0, t.1)
-  took_turned Fails kinds.Memory versions steps left (inl t) = inl t
-  took_turned Fails kinds.Memory versions steps left (inr t) = inr (turned t.0, t.1, stopped_turned causes.Memory t.0 t.1 steps left t.2)
+  took_turned Fails (kinds.Fault place) versions steps left t = (t.0, elim t.1 [
+    | inl look ↦ inl look
+    | inr publish ↦ inr (turned publish.0, failed_turned Fails _ publish.0 steps left publish.1)
+  ])
+  took_turned Fails (kinds.Unknown version) versions steps left t = (t.0, (turned t.1.0, t.1.1, failed_turned Fails _ t.1.0 steps left t.1.2))
+  took_turned Fails (kinds.Lost version) versions steps left t = (t.0, beaten_turned version steps t.1, t.2)
+  took_turned Fails kinds.Memory versions steps left t = (t.0, elim t.1 [
+    | inl none ↦ inl none
+    | inr publish ↦ inr (turned publish.0, publish.1, stopped_turned causes.Memory publish.0 publish.1 steps left publish.2)
+  ])
 
   pub works_turned : (end : End) (mark : Option Failure) (had has : List Parts) (old new : Past) → Works S Drawn table now A end mark had has old new → Works T Drawn table now B end mark had has old new
   works_turned end mark had has old new w =

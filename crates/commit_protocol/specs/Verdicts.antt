@@ -184,7 +184,7 @@ module _ (Needs : Data → Type 0) (meanings : Meanings) (Drawn : ℕ → Type 0
   abbrev pub EndVerdict : List Held → List ℕ → Option CommitErr → Type 0
   EndVerdict files [] None = OnBase Needs table files (λ last tree. meanings.same tree)
   EndVerdict files (v ∷ versions) None = (versions ≡ []) × IsBuilt files v
-  EndVerdict files versions (Some e) = ErrorVerdict files e
+  EndVerdict files versions (Some e) = (versions ≡ []) × ErrorVerdict files e
 
   -- the cause of a commit's answer
   abbrev pub CommitVerdict : List Held → Result Committed CommitErr → Type 0

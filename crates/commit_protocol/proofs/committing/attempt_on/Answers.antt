@@ -1,10 +1,10 @@
-use Rattle.std.proofs.Common.{◌≡◌, inl, ℕ, List, [], ◌++◌, Option, Some, None, Ok, Err, refl, sym, ap, ◌∙◌, subst, append-nil, arith, true≢false}
+use Rattle.std.proofs.Common.{◌≡◌, inl, inr, ℕ, List, [], ◌++◌, Option, Some, None, Ok, Err, refl, sym, ap, ◌∙◌, subst, append-nil, arith, true≢false}
 use Rattle.ice_store.specs.Given.{Gives}
 use Rattle.ice_store.specs.Others.{WhereTold}
 use Rattle.ice_store.specs.Places.{Parts, place_in}
 use Rattle.ice_store.specs.Since.{Since}
 use Rattle.ice_store.specs.History.{Disk}
-use Rattle.ice_store.specs.declared.faults.ReadErr.TheVariants.{Memory}
+use Rattle.ice_store.specs.declared.faults.ReadErr.TheVariants.{StoreFault, Memory}
 use Rattle.ice_store.specs.declared.history.Past.{Past}
 use Rattle.ice_store.proofs.SinceLaws.{since_start, since_then, since_turned}
 use Rattle.serde_json.specs.Data.{Data}
@@ -20,12 +20,14 @@ use Rattle.commit_publish.specs.Steps.{Exactly}
 use Rattle.commit_versions.specs.Latest.{IsBaseNumber}
 use Rattle.commit_versions.specs.Opening.{OpenStage, FileIs}
 use Rattle.commit_protocol.specs.Attempts.{MakesOf, AttemptLeaves}
-use Rattle.commit_protocol.specs.Ends.{DrawsBy, IsThat, LeavesBy, PublishedWorks, Works}
+use Rattle.commit_protocol.specs.Ends.{DrawsBy, IsThat, LeavesBy, PublishedWorks, TellsFault, Works}
 use Rattle.commit_protocol.specs.Kinds.{end_of, kind_of, commit_kind}
+use Rattle.commit_protocol.specs.Meanings.{only}
 use Rattle.commit_protocol.specs.Metadata.{HasMetadataAt, metadata_rules}
 use Rattle.commit_protocol.specs.Written.{PublishedLeaves}
 use Rattle.commit_protocol.specs.declared.change.Built.{Built}
 use Rattle.commit_protocol.specs.declared.change.Built.TheVariants.{Same as Unchanged, Next}
+use Rattle.commit_protocol.specs.declared.errors.AttemptErr.{AttemptErr}
 use Rattle.commit_protocol.specs.declared.errors.AttemptErr.TheVariants as attempts
 use Rattle.commit_protocol.specs.declared.errors.CommitErr.{CommitErr}
 use Rattle.commit_protocol.specs.declared.errors.CommitErr.TheVariants.{Open, Attempt}
@@ -370,3 +372,71 @@ returns-in-Err-clause-works g c =
 
 pub returns-in-Err-clause-drawn : goal.returns-in-Err-clause-drawn
 returns-in-Err-clause-drawn g c = inl c.in-Err.ensures.drawn
+
+pub returns-then-not-has_version_limit-clause-drawn_for : goal.returns-then-not-has_version_limit-clause-drawn_for
+returns-then-not-has_version_limit-clause-drawn_for g c = inl refl
+
+pub returns-then-not-has_version_limit-clause-refused : goal.returns-then-not-has_version_limit-clause-refused
+returns-then-not-has_version_limit-clause-refused g c refusal is =
+    let error : ◌≡◌ {A = CommitErr} c.unreadable_limit.result (Attempt (attempts.Refused refusal)) = cc (is) in
+    absurd (ends.limit_refuses_nothing c.args.at.place c.unreadable_limit.result refusal c.unreadable_limit.ensures error)
+
+pub returns-then-not-has_version_limit-clause-fault_place : goal.returns-then-not-has_version_limit-clause-fault_place
+returns-then-not-has_version_limit-clause-fault_place g c place is =
+    let error : ◌≡◌ {A = CommitErr} c.unreadable_limit.result (Attempt (attempts.Read (StoreFault place))) = cc (is) in
+    absurd (ends.limit_no_fault c.args.at.place c.unreadable_limit.result place c.unreadable_limit.ensures error)
+
+pub returns-in_default-clause-drawn_for : goal.returns-in_default-clause-drawn_for
+returns-in_default-clause-drawn_for g c = inl refl
+
+pub returns-in_default-clause-refused : goal.returns-in_default-clause-refused
+returns-in_default-clause-refused g c refusal is = absurd (cc (is))
+
+pub returns-in_default-clause-fault_place : goal.returns-in_default-clause-fault_place
+returns-in_default-clause-fault_place g c place is = absurd (cc (is))
+
+pub returns-in-Ok-Next-clause-drawn_for : goal.returns-in-Ok-Next-clause-drawn_for
+returns-in-Ok-Next-clause-drawn_for g c =
+    let at = c.args.at in
+    let meanings = g.X.Change.meanings c.args.change.now c.attempt.new.self in
+    let tree : view c.in-Ok.parts.meta ≡ view at.meta = ap (λ m. view m) c.in-Ok.ensures.meta in
+    let built_so = subst (λ (b : Built). MakesOf meanings (view c.in-Ok.parts.meta) b) c.in-Ok-Next.field-0-is c.in-Ok-Next.ensures.built in
+    let made : MakesOf meanings (view at.meta) (Next c.in-Ok-Next.meta) = subst (λ (d : Data). MakesOf meanings d (Next c.in-Ok-Next.meta)) tree built_so in
+    inr (view c.in-Ok-Next.meta, made.0)
+
+pub returns-in-Ok-Next-clause-refused : goal.returns-in-Ok-Next-clause-refused
+returns-in-Ok-Next-clause-refused g c refusal is = absurd (c.publish_built.ensures.refused refusal is).1
+
+pub returns-in-Ok-Next-clause-fault_place : goal.returns-in-Ok-Next-clause-fault_place
+returns-in-Ok-Next-clause-fault_place g c place is =
+    let t = c.args.table.now in
+    let last = g.I.Ids.given c.publish_built.new.ids in
+    let by_ids = subst (λ (i : Option (List ℕ)). TellsFault (only (view c.in-Ok-Next.meta)) (Gives i last) t c.publish_built.result) c.in-Ok-Next.ensures.drawn c.publish_built.ensures.fault_place in
+    elim (by_ids place is) [
+      | inl never ↦ absurd never.1
+      | inr there ↦ inr there
+    ]
+
+pub returns-in-Ok-Same-clause-drawn_for : goal.returns-in-Ok-Same-clause-drawn_for
+returns-in-Ok-Same-clause-drawn_for g c = inl c.in-Ok-Same.ensures.drawn
+
+pub returns-in-Ok-Same-clause-refused : goal.returns-in-Ok-Same-clause-refused
+returns-in-Ok-Same-clause-refused g c refusal is = absurd (cc (is))
+
+pub returns-in-Ok-Same-clause-fault_place : goal.returns-in-Ok-Same-clause-fault_place
+returns-in-Ok-Same-clause-fault_place g c place is = absurd (cc (is))
+
+pub returns-in-Err-clause-drawn_for : goal.returns-in-Err-clause-drawn_for
+returns-in-Err-clause-drawn_for g c = inl c.in-Err.ensures.drawn
+
+pub returns-in-Err-clause-refused : goal.returns-in-Err-clause-refused
+returns-in-Err-clause-refused g c refusal is =
+    let same : c.in-Err.e ≡ attempts.Refused refusal = cc (is) in
+    let meanings = g.X.Change.meanings c.args.change.now c.attempt.new.self in
+    (view c.in-Ok.parts.meta, subst (λ (x : AttemptErr). meanings.refuses (view c.in-Ok.parts.meta) x) same c.in-Err.ensures.refused)
+
+pub returns-in-Err-clause-fault_place : goal.returns-in-Err-clause-fault_place
+returns-in-Err-clause-fault_place g c place is =
+    let same : c.in-Err.e ≡ attempts.Read (StoreFault place) = cc (is) in
+    let meanings = g.X.Change.meanings c.args.change.now c.attempt.new.self in
+    inl (view c.in-Ok.parts.meta, subst (λ (x : AttemptErr). meanings.refuses (view c.in-Ok.parts.meta) x) same c.in-Err.ensures.refused)

@@ -1,4 +1,4 @@
-use Rattle.std.proofs.Common.{◌≡◌, inl, [], Some, Err, refl, sym, subst, append-nil}
+use Rattle.std.proofs.Common.{◌≡◌, inl, inr, [], Some, Err, refl, sym, subst, append-nil}
 use Rattle.ice_store.specs.Given.{Gives}
 use Rattle.ice_store.specs.Since.{Since}
 use Rattle.ice_store.proofs.SinceLaws.{since_then, since_turned, since_where}
@@ -7,7 +7,7 @@ use Rattle.commit_publish.specs.Stages.{InState}
 use Rattle.commit_publish.specs.Steps.{Anything}
 use Rattle.commit_versions.specs.Opening.{FileIs, OpenFaultAt}
 use Rattle.commit_protocol.specs.Attempts.{AttemptLeaves, CommitLeaves}
-use Rattle.commit_protocol.specs.Ends.{CommitWorks, IsThat, WasOpened, Works}
+use Rattle.commit_protocol.specs.Ends.{CommitWorks, DrawsOn, IsThat, WasOpened, Works}
 use Rattle.commit_protocol.specs.Kinds.{end_of, kind_of, commit_kind}
 use Rattle.commit_protocol.specs.Metadata.{IsAt, OpenErrLeaves, metadata_rules}
 use Rattle.commit_protocol.specs.Verdicts.{IsCaused, IsExactly}
@@ -187,3 +187,38 @@ returns-in-Err-clause-works g c =
 
 pub returns-in-Err-clause-drawn : goal.returns-in-Err-clause-drawn
 returns-in-Err-clause-drawn g c = inl refl
+
+pub returns-in-Ok-clause-drawn_for : goal.returns-in-Ok-clause-drawn_for
+returns-in-Ok-clause-drawn_for g c =
+    let t = c.args.table.now in
+    let allows = g.M.Manners.allows (g.S.Store.manners c.args.store.now) in
+    let at = c.in-Ok.at in
+    let p0 = g.S.Store.past c.args.store.now in
+    let p1 = g.S.Store.past c.open_table.new.store in
+    let p2 = g.S.Store.past c.attempt_on.new.store in
+    let meanings = g.X.Change.meanings c.args.change.now c.attempt_on.new.change in
+    let before = g.I.Ids.given c.args.ids.now in
+    let after = g.I.Ids.given c.attempt_on.new.ids in
+    let r = c.attempt_on.result in
+    let mark = g.S.Store.halted c.attempt_on.new.store in
+    let had = c.args.log.now.left.items in
+    let has = c.attempt_on.new.log.left.items in
+    since_then p0 p1 p2 (IsAt t allows at) (Works meanings.successor (Gives before after) t c.args.now (IsThat at) (end_of r) mark had has) (DrawsOn t allows meanings before after) c.in-Ok.ensures.told c.attempt_on.ensures.works
+    (λ old mid new opened w. elim c.attempt_on.ensures.drawn_for [
+      | inl none ↦ inl none
+      | inr made ↦ inr (record { at = at; mid = mid; opened = opened; built = made.0; made = made.1 })
+    ])
+
+pub returns-in-Err-clause-drawn_for : goal.returns-in-Err-clause-drawn_for
+returns-in-Err-clause-drawn_for g c =
+    let t = c.args.table.now in
+    let allows = g.M.Manners.allows (g.S.Store.manners c.args.store.now) in
+    let meanings = g.X.Change.meanings c.args.change.now c.args.change.now in
+    let given = g.I.Ids.given c.args.ids.now in
+    since_turned (g.S.Store.past c.args.store.now) (g.S.Store.past c.open_table.new.store) (OpenErrLeaves t allows c.in-Err.e) (DrawsOn t allows meanings given given) c.in-Err.ensures.told (λ old new r. inl refl)
+
+pub returns-in-Err-clause-refused : goal.returns-in-Err-clause-refused
+returns-in-Err-clause-refused g c refusal is = absurd (cc (is))
+
+pub returns-in-Err-clause-fault_place : goal.returns-in-Err-clause-fault_place
+returns-in-Err-clause-fault_place g c place is = absurd (cc (is))

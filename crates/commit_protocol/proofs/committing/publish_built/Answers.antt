@@ -1,4 +1,4 @@
-use Rattle.std.proofs.Common.{◌≡◌, ◌+◌, ◌++◌, ℕ, List, [], Option, Some, Ok, Err, refl, sym, ap, ◌∙◌, subst, append-nil}
+use Rattle.std.proofs.Common.{◌≡◌, inr, ◌+◌, ◌++◌, ℕ, List, [], Some, Ok, Err, refl, sym, ap, ◌∙◌, subst, append-nil}
 use Rattle.ice_store.specs.Places.{Parts}
 use Rattle.ice_store.specs.Given.{Gives}
 use Rattle.ice_store.specs.Since.{Since}
@@ -17,6 +17,8 @@ use Rattle.commit_protocol.specs.Ends.{DrawsBy, IsThat, LeavesBy, PublishedWorks
 use Rattle.commit_protocol.specs.Kinds.{commit_kind}
 use Rattle.commit_protocol.specs.Metadata.{metadata_rules}
 use Rattle.commit_protocol.specs.Written.{commit_error_by}
+use Rattle.ice_store.specs.declared.faults.ReadErr.TheVariants.{StoreFault}
+use Rattle.commit_protocol.specs.declared.errors.AttemptErr.TheVariants as attempts
 use Rattle.commit_protocol.specs.declared.errors.CommitErr.{CommitErr}
 use Rattle.commit_protocol.specs.declared.errors.CommitErr.TheVariants.{Open, Attempt}
 use Rattle.commit_protocol.specs.declared.errors.Committed.TheVariants.{Published}
@@ -151,11 +153,12 @@ returns-in-Ok-publish_version-clause-works g c =
     let has = c.publish.new.log.left.items in
     let r = Ok c.in-Ok-publish_version.field-0 in
     let bytes : c.deref.result.now ≡ w.bytes = c.deref.ensures.value ∙ c.inner.ensures in
+    let same : has ≡ had = c.in-Ok-publish_version.ensures.left ∙ append-nil had in
     let told = subst (λ (x : List ℕ). Since p0 p1 (PublishLeaves (metadata_rules w.route.table allows) w.route x r)) bytes c.in-Ok-publish_version.ensures.told in
     let there = laws.moved_in t allows c.requires.mannered c.args.now Drawn base built id c.next-id.ensures w is p0 p1 r told in
     since_turned p0 p1 (works.Went w.route.draft w.route.target w.bytes r mark) (PublishedWorks t Drawn c.args.now base built (Ok (Published (base.version + 1))) mark had has)
     (works.went (metadata_rules t allows) w.route w.bytes before mark p0 p1 r c.in-Ok-publish_version.ensures.halted there)
-    (λ old new ended. works.built_published Drawn t c.args.now base built id c.next-id.ensures w is mark had has old new (c.in-Ok-publish_version.ensures.left ∙ append-nil had) ended)
+    (λ old new ended. works.built_published Drawn t c.args.now base built id c.next-id.ensures w is mark had has old new same ended)
 
 pub returns-in-Ok-publish_version-clause-drawn : goal.returns-in-Ok-publish_version-clause-drawn
 returns-in-Ok-publish_version-clause-drawn g c = (c.next-id.result, c.next-id.ensures)
@@ -249,3 +252,36 @@ returns-in-Err-publish_version-clause-unopened g c opening is =
     let error : ◌≡◌ {A = CommitErr} c.commit_error.result (Open opening) = cc (is) in
     let w = c.in-Ok.written in
     ends.publish_opens_nothing w.route.draft w.route.table (c.args.base.version + 1) c.in-Err-publish_version.e opening (sym c.commit_error.ensures ∙ error)
+
+pub returns-in-Err-clause-refused : goal.returns-in-Err-clause-refused
+returns-in-Err-clause-refused g c refusal is =
+    let same : c.in-Err.e ≡ attempts.Refused refusal = cc (is) in
+    absurd (ends.unwritten_refuses_nothing c.args.table.now c.args.base (view c.args.meta) c.args.now c.next-id.result c.in-Err.e refusal c.in-Err.ensures.err same)
+
+pub returns-in-Err-clause-fault_place : goal.returns-in-Err-clause-fault_place
+returns-in-Err-clause-fault_place g c place is =
+    let same : c.in-Err.e ≡ attempts.Read (StoreFault place) = cc (is) in
+    absurd (ends.unwritten_plainly c.args.table.now c.args.base (view c.args.meta) c.args.now c.next-id.result c.in-Err.e place c.in-Err.ensures.err same)
+
+pub returns-in-Ok-publish_version-clause-refused : goal.returns-in-Ok-publish_version-clause-refused
+returns-in-Ok-publish_version-clause-refused g c refusal is = absurd (cc (is))
+
+pub returns-in-Ok-publish_version-clause-fault_place : goal.returns-in-Ok-publish_version-clause-fault_place
+returns-in-Ok-publish_version-clause-fault_place g c place is = absurd (cc (is))
+
+pub returns-in-Err-publish_version-clause-refused : goal.returns-in-Err-publish_version-clause-refused
+returns-in-Err-publish_version-clause-refused g c refusal is =
+    let error : ◌≡◌ {A = CommitErr} c.commit_error.result (Attempt (attempts.Refused refusal)) = cc (is) in
+    let w = c.in-Ok.written in
+    absurd (ends.publish_refuses_nothing w.route.draft w.route.table (c.args.base.version + 1) c.in-Err-publish_version.e refusal (sym c.commit_error.ensures ∙ error))
+
+pub returns-in-Err-publish_version-clause-fault_place : goal.returns-in-Err-publish_version-clause-fault_place
+returns-in-Err-publish_version-clause-fault_place g c place is =
+    let t = c.args.table.now in
+    let w = c.in-Ok.written in
+    let written = c.in-Ok.ensures.ok in
+    let e = c.in-Err-publish_version.e in
+    let v = c.args.base.version + 1 in
+    let told : ◌≡◌ {A = CommitErr} c.commit_error.result (Attempt (attempts.Read (StoreFault place))) = cc (is) in
+    let error : c.commit_error.result ≡ commit_error_by e w.route.draft t v = c.commit_error.ensures ∙ ap (λ (x : Parts). commit_error_by e w.route.draft x v) written.table_is in
+    inr (ends.publish_place w.route.draft t v (Gives (g.I.Ids.given c.args.ids.now) (g.I.Ids.given c.next-id.new.self)) c.next-id.result c.next-id.ensures written.draft_is place e (sym error ∙ told))
