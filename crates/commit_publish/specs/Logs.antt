@@ -11,7 +11,7 @@ use Rattle.ice_store.specs.declared.store.StoreErr.{StoreErr}
 use Rattle.ice_store.specs.declared.store.StoreErr.TheVariants.{Failed, Memory}
 use Rattle.commit_publish.specs.Left.{Leaves}
 use Rattle.commit_publish.specs.Stages.{IsTargetTaken}
-use Rattle.commit_publish.specs.Steps.{Drop, piece_of, step_of}
+use Rattle.commit_publish.specs.Steps.{IsDropping, step_of}
 use Rattle.commit_publish.specs.declared.steps.PublishCall.{PublishCall}
 use Rattle.commit_publish.specs.declared.steps.PublishCall.TheVariants as calls
 use Rattle.commit_publish.specs.declared.steps.Route.{Route}
@@ -58,7 +58,7 @@ abbrev pub DropsTaken : Route → Result (Unit {0}) PublishErr → Option Past �
 DropsTaken route (Ok u) told = Unit {0}
 DropsTaken route (Err NameTaken) told = Unit {0}
 DropsTaken route (Err Contended) told = WhereTold told (IsTargetTaken route)
-DropsTaken route (Err (Stopped e)) told = piece_of e.call ≡ Drop → WhereTold told (IsTargetTaken route)
+DropsTaken route (Err (Stopped e)) told = IsDropping e.call → WhereTold told (IsTargetTaken route)
 
 -- the versions that a publish of this one commits
 abbrev pub published_by : ℕ → Result (Unit {0}) PublishErr → List ℕ

@@ -59,6 +59,22 @@ piece_of calls.SyncRename = Move
 piece_of calls.Remove = Drop
 piece_of calls.SyncRemoval = Drop
 
+-- a call of the piece that creates the draft
+abbrev pub IsMaking : PublishCall → Type 0
+IsMaking call = piece_of call ≡ Make
+
+-- a call of the one that fills it
+abbrev pub IsFilling : PublishCall → Type 0
+IsFilling call = piece_of call ≡ Fill
+
+-- a call of the one that renames it
+abbrev pub IsMoving : PublishCall → Type 0
+IsMoving call = piece_of call ≡ Move
+
+-- a call of the one that removes it
+abbrev pub IsDropping : PublishCall → Type 0
+IsDropping call = piece_of call ≡ Drop
+
 -- the step that a call of a publish asks for
 abbrev pub step_of : Parts → Parts → List ℕ → PublishCall → Step
 step_of draft target bytes calls.Create = Create draft
