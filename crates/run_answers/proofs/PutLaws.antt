@@ -35,7 +35,7 @@ rose_on : (m n k : ℕ) → m ≤ n → Rose n k → Rose m k
 rose_on m n k le rose = omega arith
 
 pub nothing_put : (a : Option (List ℕ)) (m : ℕ) (u : Unit {0}) → IsPut a a m m [] (Ok u)
-nothing_put a m u = record { contents = nothing_taken a u; cause = record { later = omega arith; failed = λ e. absurd (cc) } }
+nothing_put a m u = record { contents = nothing_taken a u; cause = record { later = omega arith; failed = λ e. absurd (cc); kept = λ calm. refl } }
 
 -- a put behind one that succeeded
 pub put_on : (a b c : Option (List ℕ)) (m n k : ℕ) (xs ys : List ℕ) (u : Unit {0}) (r : Result (Unit {0}) Failed) → IsPut a b m n xs (Ok u) → IsPut b c n k ys r → IsPut a c m k (xs ++ ys) r
@@ -44,6 +44,7 @@ put_on a b c m n k xs ys u r first next = record {
   cause = record {
     later = omega (arith, first.cause.later, next.cause.later);
     failed = λ e. rose_on m n k first.cause.later (next.cause.failed e);
+    kept = λ calm. next.cause.kept calm ∙ first.cause.kept (λ e. absurd (cc));
   };
 }
 
@@ -51,7 +52,7 @@ put_on a b c m n k xs ys u r first next = record {
 put_less : (a b : Option (List ℕ)) (m n : ℕ) (xs ys : List ℕ) (e f : Failed) → IsPut a b m n xs (Err e) → IsPut a b m n (xs ++ ys) (Err f)
 put_less a b m n xs ys e f lost = record {
   contents = taken_less a b xs ys e f lost.contents;
-  cause = record { later = lost.cause.later; failed = λ err. lost.cause.failed refl };
+  cause = record { later = lost.cause.later; failed = λ err. lost.cause.failed refl; kept = λ calm. absurd (calm refl) };
 }
 
 pub put_lost : (a b : Option (List ℕ)) (m n : ℕ) (xs ys : List ℕ) (e : Failed) (r : Result (Unit {0}) Failed) → IsPut a b m n xs (Err e) → IsErr r → IsPut a b m n (xs ++ ys) r
