@@ -62,6 +62,8 @@ returns-in-Ok g c =
         halted = e.halted;
         refused = λ refusal is. absurd (cc (is));
         opening = λ x is. absurd (cc (is));
+        fault = λ place is. absurd (cc (is));
+        none = λ x is. refl;
         output_faults = c.list_on.ensures.cause;
       }
       | inr (inl lacks) ↦ record {
@@ -79,6 +81,8 @@ returns-in-Ok g c =
         halted = e.halted;
         refused = refuses_lack given tree lacks.0 lacks.1;
         opening = λ x is. absurd (cc (is));
+        fault = λ place is. absurd (cc (is));
+        none = λ x is. refl;
         output_faults = c.list_on.ensures.cause;
       }
       | inr (inr memory) ↦ record {
@@ -96,6 +100,8 @@ returns-in-Ok g c =
         halted = e.halted;
         refused = λ refusal is. absurd (cc (is));
         opening = λ x is. absurd (cc (is));
+        fault = λ place is. absurd (cc (is));
+        none = λ x is. refl;
         output_faults = c.list_on.ensures.cause;
       }
     ] in
@@ -135,6 +141,8 @@ returns-in-Err g c =
       halted = marks_of_open w.table (open_kind error) p.halted q.halted q.past e.halted;
       refused = λ refusal is. absurd (cc (is));
       opening = λ x is. let same : error ≡ x = cc (is) in subst (λ (y : OpenErr). OpenFaultAt w.table y) same e.place;
+      fault = λ place is. absurd (cc (is));
+      none = λ x is. refl;
       output_faults = record { rose = λ d. absurd (not_output w.word (Open error) status c.status_of_open.ensures d); kept = λ d. refl };
     } in
     subst (λ (x : Task). Ends x status p q) (ap (λ (x : Work). record { word = w.word; table = w.table; work = x }) (sym c.requires.work)) ends
