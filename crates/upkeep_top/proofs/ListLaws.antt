@@ -28,9 +28,11 @@ use Rattle.run_refs.specs.Ancestors.{Lists}
 use Rattle.run_refs.specs.Procedures.{RefusesListing, list_procedure}
 use Rattle.run_refs.specs.Reports.{list_report}
 use Rattle.run_refs.specs.declared.ancestors.Ancestor.{Ancestor}
-use Rattle.upkeep_top.specs.Statements.{Nobody, Did, Reports, ReportsOn, RestsBy}
+use Rattle.upkeep_top.specs.Points.{Point}
+use Rattle.upkeep_top.specs.Statements.{Nobody, Did, Ends, Reports, ReportsOn, RestsBy}
 use Rattle.upkeep_top.specs.Verdicts.{OnTable, TaskVerdict, meanings_of}
 use Rattle.upkeep_top.specs.declared.task.Task.{Task}
+use Rattle.upkeep_top.specs.declared.task.Work.{Work}
 use Rattle.upkeep_top.specs.declared.task.Work.TheVariants.{List as Listing}
 use Rattle.upkeep_top.proofs.StepLaws.{ran_none, safe_none}
 
@@ -104,3 +106,8 @@ since_idle o a C R T still told s turn =
 pub refuses_lack : (given : Option ℤ) (tree : Data) (id : ℤ) → Lists given tree (Err (Lacks id)) → (refusal : Refusal)
     → ◌≡◌ {A = Option CommitErr} (Some (Attempt (Refused (UnknownSnapshot id)))) (Some (Attempt (Refused refusal))) → (base : Data) × RefusesListing given base (Refused refusal)
 refuses_lack given tree id lacks refusal is = let same : refusal ≡ UnknownSnapshot id = cc (is) in (tree, (id, lacks, cc (same)))
+
+-- A statement whose work is this one.
+
+pub ends_of : (task : Task) (work : Work) (status : Status) (p q : Point) → work ≡ task.work → Ends (record { word = task.word; table = task.table; work = work }) status p q → Ends task status p q
+ends_of task work status p q same ends = subst (λ (w : Work). Ends (record { word = task.word; table = task.table; work = w }) status p q) same ends

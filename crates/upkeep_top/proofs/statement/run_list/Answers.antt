@@ -19,9 +19,8 @@ use Rattle.run_refs.specs.Procedures.{list_procedure}
 use Rattle.upkeep_top.specs.Points.{at, moment, noted, tells}
 use Rattle.upkeep_top.specs.Statements.{Ends, Did, ReportedBy}
 use Rattle.upkeep_top.specs.declared.task.Task.{Task}
-use Rattle.upkeep_top.specs.declared.task.Work.{Work}
 use Rattle.upkeep_top.specs.declared.task.Work.TheVariants.{List as Listing}
-use Rattle.upkeep_top.proofs.ListLaws.{did_list, did_not_open, did_refuse, did_stop, refuses_lack, reports_list, since_idle, stops}
+use Rattle.upkeep_top.proofs.ListLaws.{did_list, did_not_open, did_refuse, did_stop, ends_of, refuses_lack, reports_list, since_idle, stops}
 use Rattle.upkeep_top.proofs.StatusLaws.{not_output}
 use Rattle.upkeep_top.proofs.statement.run_list.Goals as goal
 
@@ -105,7 +104,7 @@ returns-in-Ok g c =
         output_faults = c.list_on.ensures.cause;
       }
     ] in
-    subst (λ (x : Task). Ends x status p q) (ap (λ (x : Work). record { word = w.word; table = w.table; work = x }) (sym c.requires.work)) ends
+    ends_of w (Listing given) status p q (sym c.requires.work) ends
 
 pub returns-in-Err : goal.returns-in-Err
 returns-in-Err g c =
@@ -145,4 +144,4 @@ returns-in-Err g c =
       none = λ x is. refl;
       output_faults = record { rose = λ d. absurd (not_output w.word (Open error) status c.status_of_open.ensures d); kept = λ d. refl };
     } in
-    subst (λ (x : Task). Ends x status p q) (ap (λ (x : Work). record { word = w.word; table = w.table; work = x }) (sym c.requires.work)) ends
+    ends_of w (Listing given) status p q (sym c.requires.work) ends

@@ -1,4 +1,4 @@
-use Rattle.std.proofs.Common.{◌≡◌, arith, inl, [], Option, Some, Result, Ok, Err, refl, sym, ap, ◌∙◌, subst, append-nil}
+use Rattle.std.proofs.Common.{◌≡◌, arith, inl, ℕ, [], Option, Some, Result, Ok, Err, refl, sym, ap, ◌∙◌, subst, append-nil}
 use Rattle.serde_json.specs.Data.{Data}
 use Rattle.ice_store.specs.Given.{Gives}
 use Rattle.ice_store.specs.History.{replay}
@@ -19,10 +19,9 @@ use Rattle.run_refs.specs.Reports.{move_report}
 use Rattle.upkeep_top.specs.Points.{at, moment, noted, tells}
 use Rattle.upkeep_top.specs.Statements.{Ends, Did, ReportedBy}
 use Rattle.upkeep_top.specs.declared.task.Task.{Task}
-use Rattle.upkeep_top.specs.declared.task.Work.{Work}
 use Rattle.upkeep_top.specs.declared.task.Work.TheVariants.{Move}
 use Rattle.upkeep_top.proofs.EndLaws.{Commits, answers_done, did_move, error_of, move_fault, report_move, tells_none}
-use Rattle.upkeep_top.proofs.ListLaws.{did_nothing, stops}
+use Rattle.upkeep_top.proofs.ListLaws.{did_nothing, ends_of, stops}
 use Rattle.upkeep_top.proofs.StatusLaws.{not_output}
 use Rattle.upkeep_top.proofs.statement.run_move.Goals as goal
 
@@ -57,7 +56,7 @@ returns-in_default g c =
       none = λ e is. refl;
       output_faults = record { rose = λ e. absurd (cc (e)); kept = λ e. refl };
     } in
-    subst (λ (x : Task). Ends x OutOfMemory p q) (ap (λ (x : Work). record { word = w.word; table = w.table; work = x }) (sym c.requires.work)) ends
+    ends_of w (Move c.args.goal.now) OutOfMemory p q (sym c.requires.work) ends
 
 pub returns-in-Ok-commit : goal.returns-in-Ok-commit
 returns-in-Ok-commit g c =
@@ -77,7 +76,7 @@ returns-in-Ok-commit g c =
     let end : End = end_of answer in
     let e = c.in-Ok-commit.ensures in
     let Seen : Data → Type 0 = λ tree. (s.goal ≡ r.goal) × HasSeen r.goal tree s.previous s.id in
-    let Made = λ moment. Commits w.table (moves_of r.goal moment Seen) Drawn now answer q.halted p.left q.left p.past q.past in
+    let Made : ℕ → Type 0 = λ m. Commits w.table (moves_of r.goal m Seen) Drawn now answer q.halted p.left q.left p.past q.past in
     let commits = subst Made c.new-change.ensures.now (record { told = e.told; works = e.works; caused = e.alone (λ past step h. h); succeeds = e.successors (λ past step h. h); refused = e.refused }) in
     let ends : Ends made status p q = record {
       now = now;
@@ -98,7 +97,7 @@ returns-in-Ok-commit g c =
       none = tells_none answer;
       output_faults = c.put_report.ensures.cause;
     } in
-    subst (λ (x : Task). Ends x status p q) (ap (λ (x : Work). record { word = w.word; table = w.table; work = x }) (ap Move goals ∙ sym c.requires.work)) ends
+    ends_of w (Move r.goal) status p q (ap Move goals ∙ sym c.requires.work) ends
 
 pub returns : goal.returns
 returns g c =
@@ -117,7 +116,7 @@ returns g c =
     let answer : Result Committed CommitErr = Err error in
     let e = c.in-Err.ensures in
     let Seen : Data → Type 0 = λ tree. (s.goal ≡ r.goal) × HasSeen r.goal tree s.previous s.id in
-    let Made = λ moment. Commits w.table (moves_of r.goal moment Seen) Drawn now answer q.halted p.left q.left p.past q.past in
+    let Made : ℕ → Type 0 = λ m. Commits w.table (moves_of r.goal m Seen) Drawn now answer q.halted p.left q.left p.past q.past in
     let commits = subst Made c.new-change.ensures.now (record { told = e.told; works = e.works; caused = e.alone (λ past step h. h); succeeds = e.successors (λ past step h. h); refused = e.refused }) in
     let Told : Past → Past → Type 0 = CommitLeaves w.table (λ past step. ⊥) (moves_of r.goal now Seen) Drawn now (Err error) in
     let ends : Ends made status p q = record {
@@ -139,4 +138,4 @@ returns g c =
       none = tells_none answer;
       output_faults = record { rose = λ d. absurd (not_output w.word error status c.status_of_error.ensures d); kept = λ d. refl };
     } in
-    subst (λ (x : Task). Ends x status p q) (ap (λ (x : Work). record { word = w.word; table = w.table; work = x }) (ap Move goals ∙ sym c.requires.work)) ends
+    ends_of w (Move r.goal) status p q (ap Move goals ∙ sym c.requires.work) ends
