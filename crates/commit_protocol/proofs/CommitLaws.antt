@@ -1,5 +1,5 @@
 -- Laws of an attempt: the change is asked, and what it built is published.
-use Rattle.std.proofs.Common.{◌≡◌, ◌⊎◌, inl, inr, ℕ, ◌+◌, List, [], ◌∷◌, ◌++◌, Option, Result, Ok, Err, codes, unwrap_or, option_and_then, refl, sym, ap, ◌∙◌, subst}
+use Rattle.std.proofs.Common.{◌≡◌, ◌⊎◌, inl, inr, ℕ, ◌+◌, ◌≤◌, List, [], ◌∷◌, ◌++◌, length, Option, Result, Ok, Err, codes, unwrap_or, option_and_then, refl, sym, ap, ◌∙◌, subst}
 use Rattle.serde_json.specs.Data.{Data}
 use Rattle.serde_json.specs.Find.{as_str}
 use Rattle.serde_json.specs.View.{view}
@@ -19,21 +19,23 @@ use Rattle.commit_history.specs.Versions.{number_in}
 use Rattle.commit_history.proofs.Numbering.{numbering}
 use Rattle.commit_history.proofs.Running.{ran_then, ran_turned, begins}
 use Rattle.commit_publish.specs.Leaves.{PublishLeaves}
-use Rattle.commit_publish.specs.Logs.{LeftBy}
-use Rattle.commit_publish.specs.Stages.{IsNarrow, IsNameTaken, Creating, Aim, Stage, NoFile, IsLost, InState, Exactly, Anything, Partly, Reaching, PartlyOrReaching, draft_plan, move_plan, drop_plan}
-use Rattle.commit_publish.specs.declared.steps.FailedCall.TheVariants.{OnFile, OnNames}
+use Rattle.commit_publish.specs.Stages.{IsNarrow, IsNameTaken, Creating, Aim, Stage, NoFile, IsLost, InState}
+use Rattle.commit_publish.specs.Steps.{Exactly, Anything, StopsAt, publish_plan, lost_plan}
+use Rattle.commit_publish.specs.declared.steps.PublishCall.{PublishCall}
+use Rattle.commit_publish.specs.declared.steps.PublishCall.TheVariants as asked
+use Rattle.ice_store.specs.declared.store.StoreErr.{StoreErr}
+use Rattle.ice_store.specs.declared.store.StoreErr.TheVariants as causes
 use Rattle.commit_publish.specs.declared.steps.Route.{Route}
 use Rattle.commit_publish.specs.declared.publish.PublishErr.{PublishErr}
 use Rattle.commit_publish.specs.declared.publish.PublishErr.TheVariants as publishes
 use Rattle.commit_publish.proofs.CallLaws as calls
 use Rattle.commit_publish.proofs.CallLaws.{Work, RR}
 use Rattle.commit_versions.specs.Names.{version_text_of}
-use Rattle.commit_versions.specs.Opening.{OpenStage}
+use Rattle.commit_versions.specs.Opening.{OpenStage, file_limit}
 use Rattle.commit_protocol.specs.Meanings.{Meanings, only}
 use Rattle.commit_protocol.specs.Metadata.{IsMetadata, IsAt, metadata_content, metadata_rules, metadata_local}
-use Rattle.commit_protocol.specs.Attempts.{Drafted, RefusedBy, TellsLimit, AttemptLeaves, CommitLeaves}
-use Rattle.commit_protocol.specs.Causes.{CommitRose}
-use Rattle.commit_protocol.specs.Written.{IsOn, next_tree, IsWritten, IsUnwritten, commit_error_by, PublishedLeaves, CommitLeft, draft_at, version_at}
+use Rattle.commit_protocol.specs.Attempts.{Drafted, RefusedBy, TellsLimit, AttemptLeaves, CommitLeaves, stopped_at}
+use Rattle.commit_protocol.specs.Written.{IsOn, next_tree, IsWritten, IsUnwritten, commit_error_by, stop_error, PublishedLeaves, version_at}
 use Rattle.commit_protocol.specs.declared.opening.At.{At}
 use Rattle.commit_protocol.specs.declared.committing.Base.{Base}
 use Rattle.commit_protocol.specs.declared.committing.Written.{Written}
@@ -44,26 +46,10 @@ use Rattle.commit_protocol.specs.declared.errors.CommitErr.TheVariants.{Open, At
 use Rattle.commit_protocol.specs.declared.errors.Committed.{Committed}
 use Rattle.commit_protocol.specs.declared.errors.Committed.TheVariants.{Same, Published}
 
--- a version's stage is one of each next place
-pub stage_from : (number : Parts → ℕ) (base : Parts) (route : Route) (d : Disk) → route.base ≡ base → Aim number route → OpenStage number base d → Stage number route Creating NoFile d
-stage_from number base route d base_is aim at_base =
-    let here = subst (λ (b : Parts). OpenStage number b d) (sym base_is) at_base in
-    record { pending = here.pending; last_or_taken = here.last_or_taken route.target aim.next; file = tt }
-
 -- the next version's metadata is at the location of what was built
 pub location_next : (previous : List ℕ) (now : ℕ) (built : Data) → location_of (next_version previous now built) ≡ location_of built
 unfolding next_version
 location_next previous now built = ap (λ (o : Option Data). unwrap_or (option_and_then as_str o) []) (stays-next previous (kept_versions (version_limit built)) now built (codes "location") (λ e. absurd (cc (e))) (λ e. absurd (cc (e))))
-
--- A limit that can't be read is no store fault, and nothing is left.
-
-pub limit_rose : (place : Parts) (e : CommitErr) (count : ℕ) → TellsLimit place e → CommitRose (Err e) count count
-limit_rose place e count (inl is) = subst (λ (x : CommitErr). CommitRose (Err x) count count) (sym is) tt
-limit_rose place e count (inr is) = subst (λ (x : CommitErr). CommitRose (Err x) count count) (sym is) tt
-
-pub limit_left : (place : Parts) (e : CommitErr) (Drawn : ℕ → Type 0) (table : Parts) (left : List Parts) → TellsLimit place e → CommitLeft Drawn table (Err e) left left
-limit_left place e Drawn table left (inl is) = subst (λ (x : CommitErr). CommitLeft Drawn table (Err x) left left) (sym is) refl
-limit_left place e Drawn table left (inr is) = subst (λ (x : CommitErr). CommitLeft Drawn table (Err x) left left) (sym is) (inl refl)
 
 -- Calls that add no step before a publish.
 module _ (x : Work) (K : Past → Type 0) (old mid new : Past) (idle : RR x (Exactly []) K old mid) where
@@ -71,16 +57,14 @@ module _ (x : Work) (K : Past → Type 0) (old mid new : Past) (idle : RR x (Exa
   behind P L run = ran_then x.rules (Exactly []) P P K L (λ l k e p. subst (λ z. P (z ++ k)) (sym e) p) old mid new idle run
 
   pub publish_after : (r : Result (Unit {0}) PublishErr) → PublishLeaves x.rules x.route x.bytes r mid new → PublishLeaves x.rules x.route x.bytes r old new
-  publish_after (Ok u) run = calls.join_published x old mid new [] (draft_plan x.route.draft x.bytes ++ move_plan x.route) K idle run
+  publish_after (Ok u) run = calls.join_published x old mid new [] (publish_plan x.route.draft x.route.target x.bytes) K idle run
   publish_after (Err publishes.NameTaken) run = behind (Exactly []) (IsNameTaken x.route) run
-  publish_after (Err publishes.Contended) run = behind (Exactly (draft_plan x.route.draft x.bytes ++ drop_plan x.route)) (InState (IsLost x.route.target)) run
-  publish_after (Err publishes.Unknown) run = behind (Reaching x.route x.bytes) Anything run
-  publish_after (Err (publishes.Fault call)) run = behind (Partly x.route x.bytes) Anything run
-  publish_after (Err publishes.NoMemory) run = behind (PartlyOrReaching x.route x.bytes) Anything run
+  publish_after (Err publishes.Contended) run = behind (Exactly (lost_plan x.route.draft x.bytes)) (InState (IsLost x.route.target)) run
+  publish_after (Err (publishes.Stopped e)) run = behind (StopsAt x.route.draft x.route.target x.bytes e.call e.cause) Anything run
 
 -- metadata of the table may be published
-pub metadata_narrow : (table : Parts) (bytes : List ℕ) (tree : Data) → IsMetadata table bytes tree → IsNarrow (metadata_content table) bytes
-metadata_narrow table bytes tree is = record { good = λ sealed. (tree, is); unreached = λ other sealed place r. absurd r }
+pub metadata_narrow : (table : Parts) (bytes : List ℕ) (tree : Data) → IsMetadata table bytes tree → length bytes ≤ file_limit → IsNarrow (metadata_content table) bytes
+metadata_narrow table bytes tree is short = record { good = λ sealed. ((tree, is), short); unreached = λ other sealed place r. absurd r }
 
 module _ (table : Parts) (allows : Past → Step → Type 0) (mannered : IsMannered (metadata_rules table allows)) (now : ℕ) (Drawn : ℕ → Type 0) where
   abbrev pub Idle_ : (Past → Type 0) → Past → Past → Type 0
@@ -135,32 +119,43 @@ module _ (table : Parts) (allows : Past → Step → Type 0) (mannered : IsManne
       unfolding drafted
       published_ok left at on limit = (next_version_is at on, limit, tt, record { drafted = drafted w is at on; left = left })
 
+      abbrev pub Stops : PublishCall → StoreErr → Type 0
+      Stops call cause = Left (stopped_at call cause)
+
+      abbrev pub Told : CommitErr → Type 0
+      Told e = BuiltLeaves (Err e) old new
+
+      abbrev pub StopTold : PublishCall → StoreErr → Type 0
+      StopTold call cause = Told (stop_error call cause w.route.draft table (base.version + 1))
+
+      lacked : (call : PublishCall) → Stops call causes.Memory → StopTold call causes.Memory
+      unfolding drafted
+      lacked call left at on limit = inr (record { call = call; limit = limit; published = record { drafted = drafted w is at on; left = left } })
+
+      failed : (call : PublishCall) → Stops call causes.Failed → StopTold call causes.Failed
+      unfolding drafted
+      failed asked.Create left at on limit = inr (record { call = asked.Create; kind = refl; drafted = drafted w is at on; place_is = refl; left = left })
+      failed asked.Append left at on limit = inr (record { call = asked.Append; kind = refl; drafted = drafted w is at on; place_is = refl; left = left })
+      failed asked.Seal left at on limit = inr (record { call = asked.Seal; kind = refl; drafted = drafted w is at on; place_is = refl; left = left })
+      failed asked.SyncDraft left at on limit = inr (record { call = asked.SyncDraft; kind = refl; drafted = drafted w is at on; place_is = refl; left = left })
+      failed asked.Rename left at on limit = record { call = asked.Rename; kind = refl; version_is = next_version_is at on; limit = limit; published = record { drafted = drafted w is at on; left = left } }
+      failed asked.SyncRename left at on limit = record { call = asked.SyncRename; kind = refl; version_is = next_version_is at on; limit = limit; published = record { drafted = drafted w is at on; left = left } }
+      failed asked.Remove left at on limit = inr (record { call = asked.Remove; kind = refl; drafted = drafted w is at on; place_is = refl; left = left })
+      failed asked.SyncRemoval left at on limit = inr (record { call = asked.SyncRemoval; kind = refl; drafted = drafted w is at on; place_is = refl; left = left })
+
+      stopped : (call : PublishCall) (cause : StoreErr) → Stops call cause → StopTold call cause
+      stopped call causes.Memory left = lacked call left
+      stopped call causes.Failed left = failed call left
+
       pub published_err : (e : PublishErr) → Left (Err e) → BuiltLeaves (Err (commit_error_by e w.route.draft table (base.version + 1))) old new
       unfolding drafted
       published_err publishes.NameTaken left at on limit = inr (record { limit = limit; drafted = drafted w is at on; place_is = refl; left = left })
       published_err publishes.Contended left at on limit = (next_version_is at on, limit, record { drafted = drafted w is at on; left = left })
-      published_err publishes.Unknown left at on limit = (next_version_is at on, limit, record { drafted = drafted w is at on; left = left })
-      published_err (publishes.Fault OnFile) left at on limit = inr (record { call = OnFile; drafted = drafted w is at on; place_is = refl; left = left })
-      published_err (publishes.Fault OnNames) left at on limit = inr (record { call = OnNames; drafted = drafted w is at on; place_is = refl; left = left })
-      published_err publishes.NoMemory left at on limit = inr (record { drafted = drafted w is at on; left = left })
+      published_err (publishes.Stopped e) left at on limit = stopped e.call e.cause left at on limit
 
     pub moved_in : (w : Written) (is : IsWritten table base built now id w) (o a : Option Past) (r : Result (Unit {0}) PublishErr)
         → Since o a (PublishLeaves (rules_of metadata_content w.route.table allows) w.route w.bytes r) → Since o a (PublishLeaves (metadata_rules table allows) w.route w.bytes r)
     moved_in w is o a r told = subst (λ (t : Parts). Since o a (PublishLeaves (metadata_rules t allows) w.route w.bytes r)) is.table_is told
-
-    pub left_err : (w : Written) (is : IsWritten table base built now id w) (e : PublishErr) (l k : List Parts) → LeftBy w.route.draft w.route.target (Err e) l k
-        → CommitLeft Drawn table (Err (commit_error_by e w.route.draft table (base.version + 1))) l k
-    left_err w is publishes.NameTaken l k left = left
-    left_err w is publishes.Contended l k left = left
-    left_err w is publishes.Unknown l k (inl one) = record { id = id; drawn = drawn; is = inl (subst (λ (p : Parts). k ≡ l ++ p ∷ []) is.draft_is one) }
-    left_err w is publishes.Unknown l k (inr two) =
-        let by_draft = subst (λ (p : Parts). k ≡ l ++ p ∷ w.route.target ∷ []) is.draft_is two in
-        record { id = id; drawn = drawn; is = inr (subst (λ (p : Parts). k ≡ l ++ draft_at table id ∷ p ∷ []) is.target_is by_draft) }
-    left_err w is (publishes.Fault OnFile) l k left = inr (id, drawn, subst (λ (p : Parts). k ≡ l ++ p ∷ []) is.draft_is left)
-    left_err w is (publishes.Fault OnNames) l k (inl none) = inl none
-    left_err w is (publishes.Fault OnNames) l k (inr one) = inr (id, drawn, subst (λ (p : Parts). k ≡ l ++ p ∷ []) is.draft_is one)
-    left_err w is publishes.NoMemory l k (inl none) = inl none
-    left_err w is publishes.NoMemory l k (inr one) = inr (id, drawn, subst (λ (p : Parts). k ≡ l ++ p ∷ []) is.draft_is one)
 
     pub unwritten_err : (e : AttemptErr) (old new : Past) → IsUnwritten table base built now id e → Idle_ Anything old new → BuiltLeaves (Err (Attempt e)) old new
     unwritten_err (attempts.Refused refusal) old new is idle at on limit = absurd is
@@ -260,11 +255,11 @@ module _ (table : Parts) (allows : Past → Step → Type 0) (mannered : IsManne
           let t = b.1.1 in
           inr (b.0, (limit, record { id = t.id; drawn = t.drawn; place_is = t.place_is; next = t.next; is = record { built = t.is.built; changed = subst (λ (d : Data). meanings.successor (view at.meta) d) (sym t.is.changed) change_is; is = t.is.is }; long = t.long }, idle_on b.1.2))
       attempt_then (Err (Attempt (attempts.Read (StoreFault place)))) (inl b) = absurd b.refuses_it
-      attempt_then (Err (Attempt (attempts.Read (StoreFault place)))) (inr b) = inr (record { call = b.call; drafted = turned b.drafted; place_is = b.place_is; left = moved b.drafted (Err (publishes.Fault b.call)) b.left })
+      attempt_then (Err (Attempt (attempts.Read (StoreFault place)))) (inr b) = inr (record { call = b.call; kind = b.kind; drafted = turned b.drafted; place_is = b.place_is; left = moved b.drafted (stopped_at b.call causes.Failed) b.left })
       attempt_then (Err (Attempt (attempts.Read Memory))) (inl b) = inl (idle_on b)
-      attempt_then (Err (Attempt (attempts.Read Memory))) (inr b) = inr (record { drafted = turned b.drafted; left = moved b.drafted (Err publishes.NoMemory) b.left })
+      attempt_then (Err (Attempt (attempts.Read Memory))) (inr b) = inr (record { call = b.call; limit = limit; published = record { drafted = turned b.published.drafted; left = moved b.published.drafted (stopped_at b.call causes.Memory) b.published.left } })
       attempt_then (Err (Contended version)) b = (b.0, limit, record { drafted = turned b.2.drafted; left = moved b.2.drafted (Err publishes.Contended) b.2.left })
-      attempt_then (Err (CommitUnknown version)) b = (b.0, limit, record { drafted = turned b.2.drafted; left = moved b.2.drafted (Err publishes.Unknown) b.2.left })
+      attempt_then (Err (CommitUnknown version)) b = record { call = b.call; kind = b.kind; version_is = b.version_is; limit = limit; published = record { drafted = turned b.published.drafted; left = moved b.published.drafted (stopped_at b.call causes.Failed) b.published.left } }
 
 -- A table was opened, and then attempted.
 module _ (table : Parts) (allows : Past → Step → Type 0) (now : ℕ) (Drawn : ℕ → Type 0) (meanings : Meanings) where

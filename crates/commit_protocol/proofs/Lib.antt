@@ -4,7 +4,8 @@ pub mod StepLaws
 pub mod QuietLaws
 pub mod VerdictLaws
 pub mod UniqueLaws
-pub mod NoteLaws
-pub mod FailureLaws
+pub mod ReopenLaws
+pub mod EndLaws
+pub mod WorkLaws
 pub mod PromiseLaws
 pub mod ExactLaws

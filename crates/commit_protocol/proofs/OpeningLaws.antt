@@ -1,5 +1,5 @@
 -- Laws of opening a table: from the opened bytes to its metadata.
-use Rattle.std.proofs.Common.{◌≡◌, ℕ, List, [], Result, Ok, Err, inl, inr, sym, subst}
+use Rattle.std.proofs.Common.{◌≡◌, ℕ, List, [], Option, Result, Ok, Err, inl, inr, sym, subst}
 use Rattle.serde_json.specs.View.{view}
 use Rattle.ice_store.specs.Places.{Parts}
 use Rattle.ice_store.specs.declared.history.Past.{Past}
@@ -8,7 +8,8 @@ use Rattle.ice_store.specs.declared.faults.ReadErr.TheVariants.{Missing, Damaged
 use Rattle.commit_history.specs.Versions.{number_in}
 use Rattle.commit_history.specs.Runs.{Ran}
 use Rattle.commit_history.proofs.Running.{ran_turned}
-use Rattle.commit_publish.specs.Stages.{Exactly, Anything, InState}
+use Rattle.commit_publish.specs.Stages.{InState}
+use Rattle.commit_publish.specs.Steps.{Exactly, Anything}
 use Rattle.commit_versions.specs.Opening.{OpenStage, IsOpened, OpenLeaves}
 use Rattle.commit_versions.specs.Latest.{IsBaseNumber}
 use Rattle.commit_versions.specs.declared.types.Opened.{Opened}
@@ -16,6 +17,9 @@ use Rattle.commit_versions.specs.declared.types.OpenErr.{OpenErr}
 use Rattle.commit_versions.specs.declared.types.OpenErr.TheVariants.{NoTable, LocationDiffers, Read}
 use Rattle.commit_protocol.specs.Metadata.{metadata_rules, IsMetadata, ReadsTable, IsAt, OpenErrLeaves, TableLeaves}
 use Rattle.commit_protocol.specs.declared.opening.At.{At}
+use Rattle.commit_publish.specs.Kinds.{Counts}
+use Rattle.commit_versions.specs.Opening.{OpenMarks, opening_kind}
+use Rattle.ice_store.specs.declared.history.Failure.{Failure}
 
 module _ (table : Parts) (allows : Past → Step → Type 0) where
   module _ (o : Opened) (old now : Past) (opened : IsOpened (metadata_rules table allows) o.place o.text old now) (numbers : IsBaseNumber (number_in table) o.place o.version) where
@@ -47,3 +51,25 @@ module _ (table : Parts) (allows : Past → Step → Type 0) where
   unopened_by (Read (Unsupported place what)) old now r = inl r
   unopened_by (Read (StoreFault place)) old now r = r
   unopened_by (Read Memory) old now r = r
+
+-- Reading the opened bytes calls no store.
+
+pub reads_counts : (table : Parts) (o : Opened) (r : Result At OpenErr) (before now : ℕ) → ReadsTable table o r → now ≡ before → Counts (opening_kind r) before now
+reads_counts table o (Ok at) before now r e = e
+reads_counts table o (Err (NoTable place)) before now r e = e
+reads_counts table o (Err (LocationDiffers place location)) before now r e = e
+reads_counts table o (Err (Read (Missing place))) before now r e = e
+reads_counts table o (Err (Read (Damaged place at))) before now r e = e
+reads_counts table o (Err (Read (Unsupported place what))) before now r e = e
+reads_counts table o (Err (Read (StoreFault place))) before now r e = absurd r
+reads_counts table o (Err (Read Memory)) before now r e = e
+
+pub reads_marks : (table : Parts) (o : Opened) (r : Result At OpenErr) (before now : Option Failure) (told : Option Past) → ReadsTable table o r → now ≡ before → OpenMarks (opening_kind r) before now told
+reads_marks table o (Ok at) before now told r e = e
+reads_marks table o (Err (NoTable place)) before now told r e = e
+reads_marks table o (Err (LocationDiffers place location)) before now told r e = e
+reads_marks table o (Err (Read (Missing place))) before now told r e = e
+reads_marks table o (Err (Read (Damaged place at))) before now told r e = e
+reads_marks table o (Err (Read (Unsupported place what))) before now told r e = e
+reads_marks table o (Err (Read (StoreFault place))) before now told r e = absurd r
+reads_marks table o (Err (Read Memory)) before now told r e = e

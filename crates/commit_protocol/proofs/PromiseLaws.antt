@@ -15,7 +15,8 @@ use Rattle.commit_history.specs.Steady.{IsSteady, Each, IsFreshChange}
 use Rattle.commit_history.specs.Tables.{Whole, table as table_in, sealed_at}
 use Rattle.commit_history.specs.Runs.{Ran, Along, IsSafe}
 use Rattle.commit_history.proofs.Following.{standing_disk}
-use Rattle.commit_publish.specs.Stages.{Anything, Holds}
+use Rattle.commit_publish.specs.Stages.{Holds}
+use Rattle.commit_publish.specs.Steps.{Anything}
 use Rattle.commit_protocol.specs.Metadata.{metadata_reading, metadata_rules}
 use Rattle.commit_protocol.specs.Meanings.{Meanings}
 use Rattle.commit_protocol.specs.Attempts.{CommitLeaves}
@@ -86,7 +87,9 @@ module _ (table : Parts) (allows : Past → Step → Type 0) (nobody : IsNobody 
         bytes = d.bytes;
         next = d.writes.next;
         next_is = d.writes.is;
+        written = d.writes.written;
         spells = d.writes.spells;
+        short = d.short;
         acknowledged = stage.0;
         behind = λ steady. subst (λ (t : List ℕ). Holds (standing (number_in table) new).acknowledged (Some t ∷ Some d.bytes ∷ [])) d.text_is
             (stage.1 (record { steady = subst (λ (p : Past). IsSteady (metadata_reading table) p) (sym opened.0) steady; bytes = based (a.opened.opened.sealed steady) }));

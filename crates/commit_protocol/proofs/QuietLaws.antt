@@ -18,7 +18,7 @@ use Rattle.commit_history.specs.Readings.{Rules}
 use Rattle.commit_history.specs.Tables.{version}
 use Rattle.commit_history.specs.Runs.{Ran, AllProper, IsProperBy, IsProperStep, ours, ours_by}
 use Rattle.commit_history.proofs.Agreeing.{named_file, number_of_named}
-use Rattle.commit_publish.specs.Stages.{Exactly}
+use Rattle.commit_publish.specs.Steps.{Exactly}
 use Rattle.commit_protocol.specs.Verdicts.{IsNobody}
 
 -- where a call that adds nothing is told, the past is as it was

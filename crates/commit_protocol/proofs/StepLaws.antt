@@ -13,7 +13,8 @@ use Rattle.commit_history.specs.Tables.{version}
 use Rattle.commit_history.specs.Versions.{number_in}
 use Rattle.commit_history.specs.Runs.{Ran}
 use Rattle.commit_history.proofs.Running.{ran_then, ran_turned}
-use Rattle.commit_publish.specs.Stages.{Anything, Exactly, InState, IsLost, IsNameTaken, Publishes, Partly, Reaching, PartlyOrReaching, draft_plan, move_plan, drop_plan}
+use Rattle.commit_publish.specs.Stages.{InState, IsLost, IsNameTaken, Publishes}
+use Rattle.commit_publish.specs.Steps.{Anything, Exactly, StopsAt, publish_plan, lost_plan}
 use Rattle.commit_publish.specs.declared.steps.Route.{Route}
 use Rattle.commit_publish.specs.Leaves.{PublishLeaves}
 use Rattle.commit_publish.specs.declared.publish.PublishErr.{PublishErr}
@@ -23,7 +24,8 @@ use Rattle.commit_versions.specs.declared.types.OpenErr.{OpenErr}
 use Rattle.commit_versions.specs.declared.types.OpenErr.TheVariants.{NoTable, LocationDiffers, Read}
 use Rattle.commit_protocol.specs.Meanings.{Meanings}
 use Rattle.commit_protocol.specs.Metadata.{OpenErrLeaves, metadata_reading, metadata_rules}
-use Rattle.commit_protocol.specs.Attempts.{PublishedBy, AttemptLeaves, CommitLeaves, Attempted}
+use Rattle.ice_store.specs.declared.store.StoreErr.TheVariants as causes
+use Rattle.commit_protocol.specs.Attempts.{PublishedBy, AttemptLeaves, CommitLeaves, Attempted, stopped_at}
 use Rattle.commit_protocol.specs.declared.opening.At.{At}
 use Rattle.commit_protocol.specs.declared.errors.AttemptErr.{AttemptErr}
 use Rattle.commit_protocol.specs.declared.errors.AttemptErr.TheVariants as attempts
@@ -86,12 +88,10 @@ module _ (table : Parts) (allows : Past → Step → Type 0) where
   open_err_idle (Read Memory) old now r = read_err_idle Memory old now r
 
   pub publish_steps : (route : Route) (bytes : List ℕ) (r : Result (Unit {0}) PublishErr) (old new : Past) → PublishLeaves (metadata_rules table allows) route bytes r old new → Steps old new
-  publish_steps route bytes (Ok u) old new run = some (Exactly (draft_plan route.draft bytes ++ move_plan route)) (Publishes (metadata_reading table) route bytes old) old new run
+  publish_steps route bytes (Ok u) old new run = some (Exactly (publish_plan route.draft route.target bytes)) (Publishes (metadata_reading table) route bytes old) old new run
   publish_steps route bytes (Err publishes.NameTaken) old new run = some (Exactly []) (IsNameTaken route) old new run
-  publish_steps route bytes (Err publishes.Contended) old new run = some (Exactly (draft_plan route.draft bytes ++ drop_plan route)) (InState (IsLost route.target)) old new run
-  publish_steps route bytes (Err publishes.Unknown) old new run = some (Reaching route bytes) Anything old new run
-  publish_steps route bytes (Err (publishes.Fault call)) old new run = some (Partly route bytes) Anything old new run
-  publish_steps route bytes (Err publishes.NoMemory) old new run = some (PartlyOrReaching route bytes) Anything old new run
+  publish_steps route bytes (Err publishes.Contended) old new run = some (Exactly (lost_plan route.draft bytes)) (InState (IsLost route.target)) old new run
+  publish_steps route bytes (Err (publishes.Stopped e)) old new run = some (StopsAt route.draft route.target bytes e.call e.cause) Anything old new run
 
   module _ (meanings : Meanings) (Drawn : ℕ → Type 0) (now : ℕ) where
     module _ (at : At) (old new : Past) where
@@ -118,11 +118,11 @@ module _ (table : Parts) (allows : Past → Step → Type 0) where
       attempt_steps (Err (Attempt (attempts.Read (Unsupported place what)))) (inl a) = idle a.idle
       attempt_steps (Err (Attempt (attempts.Read (Unsupported place what)))) (inr a) = idle a.1.2
       attempt_steps (Err (Attempt (attempts.Read (StoreFault place)))) (inl a) = idle a.idle
-      attempt_steps (Err (Attempt (attempts.Read (StoreFault place)))) (inr a) = publish_steps a.drafted.route a.drafted.bytes (Err (publishes.Fault a.call)) old new a.left
+      attempt_steps (Err (Attempt (attempts.Read (StoreFault place)))) (inr a) = publish_steps a.drafted.route a.drafted.bytes (stopped_at a.call causes.Failed) old new a.left
       attempt_steps (Err (Attempt (attempts.Read Memory))) (inl a) = idle a
-      attempt_steps (Err (Attempt (attempts.Read Memory))) (inr a) = published (Err publishes.NoMemory) a
+      attempt_steps (Err (Attempt (attempts.Read Memory))) (inr a) = published (stopped_at a.call causes.Memory) a.published
       attempt_steps (Err (Contended v)) a = published (Err publishes.Contended) a.2
-      attempt_steps (Err (CommitUnknown v)) a = published (Err publishes.Unknown) a.2
+      attempt_steps (Err (CommitUnknown v)) a = published (stopped_at a.call causes.Failed) a.published
 
     attempted_steps : (r : Result Committed CommitErr) (old new : Past) → Attempted table allows meanings Drawn now r old new → Steps old new
     attempted_steps r old new a = both old a.mid new (some (Exactly []) Anything old a.mid (opened_idle a.at.place a.at.text old a.mid a.opened.opened)) (attempt_steps a.at a.mid new r a.then)

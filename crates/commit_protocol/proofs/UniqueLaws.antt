@@ -20,7 +20,9 @@ use Rattle.metadata_form.specs.declared.fault.Fault.{Fault}
 use Rattle.table_metadata.specs.Spelling.{Spells}
 use Rattle.table_metadata.proofs.SpellingLaws.{one_fault, no_fault_of}
 use Rattle.metadata_view.specs.View.{location_of}
-use Rattle.table_metadata.specs.Edits.{HasVersionLimit, next_version}
+use Rattle.table_metadata.specs.Edits.{next_version}
+use Rattle.commit_publish.specs.Kinds as kinds
+use Rattle.commit_protocol.specs.Kinds.{attempt_kind}
 use Rattle.commit_versions.specs.Names.{version_text_of}
 use Rattle.commit_versions.specs.Opening.{FileIs, IsBeyond, file_limit}
 use Rattle.commit_versions.specs.declared.types.OpenErr.{OpenErr}
@@ -32,7 +34,6 @@ use Rattle.commit_protocol.specs.Attempts.{IsNextOf, limit_path}
 use Rattle.commit_protocol.specs.Written.{draft_at}
 use Rattle.commit_protocol.specs.Verdicts.{IsLastFile, IsTable, LimitVerdict, OpenVerdict, Shown, shown, IsOpeningTold, OnBase, IsShort, IsLongText, DrawsUp, CommitVerdict, IsTold, IsDecided, IsOneDrawn}
 use Rattle.commit_protocol.specs.declared.opening.At.{At}
-use Rattle.commit_protocol.specs.declared.errors.Refusal.{Refusal}
 use Rattle.commit_protocol.specs.declared.errors.AttemptErr.{AttemptErr}
 use Rattle.commit_protocol.specs.declared.errors.AttemptErr.TheVariants as attempts
 use Rattle.commit_protocol.specs.declared.errors.CommitErr.{CommitErr}
@@ -207,7 +208,7 @@ one_given before values a b x y =
     cc (append_cancel_left x.0 (a ∷ []) (b ∷ []) ends)
 
 -- A commit.
-module _ (table : Parts) (now : ℕ) (meanings : Meanings) (Drawn : ℕ → Type 0) (decided : IsDecided meanings) (one_drawn : IsOneDrawn Drawn) (files : List Held) where
+module _ (Needs : Data → Type 0) (table : Parts) (now : ℕ) (meanings : Meanings) (Drawn : ℕ → Type 0) (decided : IsDecided meanings) (one_drawn : IsOneDrawn Drawn) (files : List Held) where
   abbrev pub Commit : Type 0
   Commit = Result Committed CommitErr
 
@@ -223,11 +224,18 @@ module _ (table : Parts) (now : ℕ) (meanings : Meanings) (Drawn : ℕ → Type
     pub is : IsNextOf meanings.successor last now tree next
     pub which : DraftCase last (draft_at table id) (length (compact_text next)) r
 
+  -- the change refused the base, by an error that is told
+  pub record Refuses (tree : Data) (r : Commit) : Type 0 where
+    pub e : AttemptErr
+    pub told : attempt_kind e ≡ kinds.Told
+    pub so : meanings.refuses tree e
+    pub is : r ≡ Err (Attempt e)
+
   abbrev pub MadeCase : ℕ → Data → Commit → Type 0
-  MadeCase last tree r = (meanings.same tree × (r ≡ Ok (Same last))) ⊎ (((refusal : Refusal) × meanings.refuses tree (attempts.Refused refusal) × (r ≡ Err (Attempt (attempts.Refused refusal)))) ⊎ InDraft last tree r)
+  MadeCase last tree r = (meanings.same tree × (r ≡ Ok (Same last))) ⊎ (Refuses tree r ⊎ InDraft last tree r)
 
   abbrev pub BaseCase : Parts → ℕ → Data → Commit → Type 0
-  BaseCase place last tree r = ((HasVersionLimit tree → ⊥) × (r ≡ Err (Attempt (attempts.Read (Damaged place (Path limit_path)))))) ⊎ (HasVersionLimit tree × MadeCase last tree r)
+  BaseCase place last tree r = ((Needs tree → ⊥) × (r ≡ Err (Attempt (attempts.Read (Damaged place (Path limit_path)))))) ⊎ (Needs tree × MadeCase last tree r)
 
   pub record InBase (r : Commit) : Type 0 where
     pub place : Parts
@@ -242,24 +250,27 @@ module _ (table : Parts) (now : ℕ) (meanings : Meanings) (Drawn : ℕ → Type
   CommitCase r = ((e : OpenErr) × OpenCase table files (Err e) × (r ≡ Err (Open e))) ⊎ InBase r
 
   abbrev pub Verdict : Commit → Type 0
-  Verdict = CommitVerdict meanings Drawn table now files
+  Verdict = CommitVerdict Needs meanings Drawn table now files
 
   abbrev pub Draws : (ℕ → Type 0) → ℕ → Data → Parts → Type 0
   Draws = DrawsUp meanings.successor Drawn table now
 
-  module _ (r : Commit) (P : ℕ → Data → Type 0) (b : OnBase table files P) where
+  module _ (r : Commit) (P : ℕ → Data → Type 0) (b : OnBase Needs table files P) where
     made_in : MadeCase b.last b.tree r → CommitCase r
-    made_in which = inr (record { place = b.place; last = b.last; bytes = b.bytes; tree = b.tree; is = b.is; which = inr (b.limit, which) })
+    made_in which = inr (record { place = b.place; last = b.last; bytes = b.bytes; tree = b.tree; is = b.is; which = inr (b.has, which) })
 
     draft_in : (Long : ℕ → Type 0) (draft : Parts) (d : Draws Long b.last b.tree draft) → DraftCase b.last draft (length (compact_text d.next)) r → CommitCase r
     draft_in Long draft d which = made_in (inr (inr (record { id = d.id; drawn = d.drawn; next = d.next; is = d.is; which = subst (λ (p : Parts). DraftCase b.last p (length (compact_text d.next)) r) d.place which })))
 
-  taken_in : (place : Parts) (P : ℕ → Data → Type 0) (b : OnBase table files P) → meanings.refuses b.tree (attempts.NameTaken place) ⊎ (Draws IsShort b.last b.tree place × (is_named files place ≡ true)) → CommitCase (Err (Attempt (attempts.NameTaken place)))
-  taken_in place P b (inl so) = absurd (decided.plain b.tree (attempts.NameTaken place) so)
+  refused_in : (e : AttemptErr) (P : ℕ → Data → Type 0) (b : OnBase Needs table files P) → attempt_kind e ≡ kinds.Told → meanings.refuses b.tree e → CommitCase (Err (Attempt e))
+  refused_in e P b told so = made_in (Err (Attempt e)) P b (inr (inl (record { e = e; told = told; so = so; is = refl })))
+
+  taken_in : (place : Parts) (P : ℕ → Data → Type 0) (b : OnBase Needs table files P) → meanings.refuses b.tree (attempts.NameTaken place) ⊎ (Draws IsShort b.last b.tree place × (is_named files place ≡ true)) → CommitCase (Err (Attempt (attempts.NameTaken place)))
+  taken_in place P b (inl so) = refused_in (attempts.NameTaken place) P b refl so
   taken_in place P b (inr (d, named)) = draft_in (Err (Attempt (attempts.NameTaken place))) P b IsShort place d (inr (d.length_is, inl (named, refl)))
 
-  long_in : (place : Parts) (what : What) (P : ℕ → Data → Type 0) (b : OnBase table files P) → meanings.refuses b.tree (attempts.Read (Unsupported place what)) ⊎ ((what ≡ FileBytes) × Draws IsLongText b.last b.tree place) → CommitCase (Err (Attempt (attempts.Read (Unsupported place what))))
-  long_in place what P b (inl so) = absurd (decided.plain b.tree (attempts.Read (Unsupported place what)) so)
+  long_in : (place : Parts) (what : What) (P : ℕ → Data → Type 0) (b : OnBase Needs table files P) → meanings.refuses b.tree (attempts.Read (Unsupported place what)) ⊎ ((what ≡ FileBytes) × Draws IsLongText b.last b.tree place) → CommitCase (Err (Attempt (attempts.Read (Unsupported place what))))
+  long_in place what P b (inl so) = refused_in (attempts.Read (Unsupported place what)) P b refl so
   long_in place what P b (inr (bytes, d)) = draft_in (Err (Attempt (attempts.Read (Unsupported place what)))) P b IsLongText place d (inl (d.length_is, ap (λ (w : What). Err (Attempt (attempts.Read (Unsupported place w)))) bytes))
 
   pub commit_case : (r : Commit) → IsTold r → Verdict r → CommitCase r
@@ -268,13 +279,13 @@ module _ (table : Parts) (now : ℕ) (meanings : Meanings) (Drawn : ℕ → Type
       let f = b.holds.1 in
       draft_in (Ok (Published v)) _ b _ f.draft f.drawn_up (inr (f.drawn_up.length_is, inr (f.free, ap (λ (n : ℕ). Ok (Published n)) b.holds.0)))
   commit_case (Err (Open e)) told v = inl (e, case_of table files (Err e) told v, refl)
-  commit_case (Err (Attempt (attempts.Refused refusal))) told b = made_in (Err (Attempt (attempts.Refused refusal))) _ b (inr (inl (refusal, b.holds, refl)))
-  commit_case (Err (Attempt (attempts.Conflict place other))) told b = absurd (decided.plain b.tree (attempts.Conflict place other) b.holds)
+  commit_case (Err (Attempt (attempts.Refused refusal))) told b = refused_in (attempts.Refused refusal) _ b refl b.holds
+  commit_case (Err (Attempt (attempts.Conflict place other))) told b = refused_in (attempts.Conflict place other) _ b refl b.holds
   commit_case (Err (Attempt (attempts.NameTaken place))) told b = taken_in place _ b b.holds
-  commit_case (Err (Attempt (attempts.Read (Missing place)))) told b = absurd (decided.plain b.tree (attempts.Read (Missing place)) b.holds)
-  commit_case (Err (Attempt (attempts.Read (Damaged place at)))) told (inl b) = absurd (decided.plain b.tree (attempts.Read (Damaged place at)) b.holds)
+  commit_case (Err (Attempt (attempts.Read (Missing place)))) told b = refused_in (attempts.Read (Missing place)) _ b refl b.holds
+  commit_case (Err (Attempt (attempts.Read (Damaged place at)))) told (inl b) = refused_in (attempts.Read (Damaged place at)) _ b refl b.holds
   commit_case (Err (Attempt (attempts.Read (Damaged place at)))) told (inr u) =
-      inr (record { place = place; last = u.1.last; bytes = u.1.bytes; tree = u.1.tree; is = u.1.is; which = inl (u.1.unlimited, ap (λ (w : Where). Err (Attempt (attempts.Read (Damaged place w)))) u.0) })
+      inr (record { place = place; last = u.1.last; bytes = u.1.bytes; tree = u.1.tree; is = u.1.is; which = inl (u.1.lacks, ap (λ (w : Where). Err (Attempt (attempts.Read (Damaged place w)))) u.0) })
   commit_case (Err (Attempt (attempts.Read (Unsupported place what)))) told b = long_in place what _ b b.holds
   commit_case (Err (Attempt (attempts.Read (StoreFault place)))) told v = absurd told
   commit_case (Err (Attempt (attempts.Read Memory))) told v = absurd told
@@ -300,13 +311,13 @@ module _ (table : Parts) (now : ℕ) (meanings : Meanings) (Drawn : ℕ → Type
 
   one_made : (last : ℕ) (tree : Data) (r s : Commit) → MadeCase last tree r → MadeCase last tree s → r ≡ s
   one_made last tree r s (inl a) (inl b) = a.1 ∙ sym b.1
-  one_made last tree r s (inl a) (inr (inl b)) = absurd (decided.same_or_refused tree b.0 a.0 b.1)
+  one_made last tree r s (inl a) (inr (inl b)) = absurd (decided.same_or_refused tree b.e b.told a.0 b.so)
   one_made last tree r s (inl a) (inr (inr b)) = absurd (decided.built_or_same tree b.is.built b.is.changed a.0)
-  one_made last tree r s (inr (inl a)) (inl b) = absurd (decided.same_or_refused tree a.0 b.0 a.1)
-  one_made last tree r s (inr (inl a)) (inr (inl b)) = a.2 ∙ ap (λ (x : Refusal). Err (Attempt (attempts.Refused x))) (decided.one_refusal tree a.0 b.0 a.1 b.1) ∙ sym b.2
-  one_made last tree r s (inr (inl a)) (inr (inr b)) = absurd (decided.built_or_refused tree b.is.built a.0 b.is.changed a.1)
+  one_made last tree r s (inr (inl a)) (inl b) = absurd (decided.same_or_refused tree a.e a.told b.0 a.so)
+  one_made last tree r s (inr (inl a)) (inr (inl b)) = a.is ∙ ap (λ (x : AttemptErr). Err (Attempt x)) (decided.one_refusal tree a.e b.e a.told b.told a.so b.so) ∙ sym b.is
+  one_made last tree r s (inr (inl a)) (inr (inr b)) = absurd (decided.built_or_refused tree b.is.built a.e a.told b.is.changed a.so)
   one_made last tree r s (inr (inr a)) (inl b) = absurd (decided.built_or_same tree a.is.built a.is.changed b.0)
-  one_made last tree r s (inr (inr a)) (inr (inl b)) = absurd (decided.built_or_refused tree a.is.built b.0 a.is.changed b.1)
+  one_made last tree r s (inr (inr a)) (inr (inl b)) = absurd (decided.built_or_refused tree a.is.built b.e b.told a.is.changed b.so)
   one_made last tree r s (inr (inr a)) (inr (inr b)) = one_drawn_up last tree r s a b
 
   one_base : (place : Parts) (last : ℕ) (tree : Data) (r s : Commit) → BaseCase place last tree r → BaseCase place last tree s → r ≡ s

@@ -16,7 +16,8 @@ use Rattle.commit_history.specs.Tables.{version}
 use Rattle.commit_history.specs.Versions.{number_in}
 use Rattle.commit_history.specs.Runs.{Ran}
 use Rattle.table_metadata.specs.Edits.{HasVersionLimit}
-use Rattle.commit_publish.specs.Stages.{Exactly, Anything, IsLost, IsNameTaken, InState, draft_plan, move_plan, drop_plan}
+use Rattle.commit_publish.specs.Stages.{IsLost, IsNameTaken, InState}
+use Rattle.commit_publish.specs.Steps.{Exactly, Anything, draft_plan, move_plan, lost_plan}
 use Rattle.commit_publish.specs.declared.steps.Route.{Route}
 use Rattle.commit_versions.specs.Opening.{OpenStage, FileIs, IsLong, IsBeyond, IsOpened, Listed, ReadErrLeaves, file_limit}
 use Rattle.commit_versions.specs.declared.types.OpenErr.{OpenErr}
@@ -24,7 +25,7 @@ use Rattle.commit_versions.specs.declared.types.OpenErr.TheVariants.{NoTable, Lo
 use Rattle.commit_protocol.specs.Meanings.{Meanings}
 use Rattle.commit_protocol.specs.Metadata.{metadata_rules, HasOpened, IsAt, TableLeaves, OpenErrLeaves}
 use Rattle.commit_protocol.specs.Attempts.{Drafted, RefusedBy, Attempted, AttemptLeaves, CommitLeaves}
-use Rattle.commit_protocol.specs.Verdicts.{IsNobody, IsLastFile, HasLast, IsOverlong, IsTable, LimitVerdict, OpenVerdict, OnBase, IsUnlimited, IsShort, DrawsUp, CommitVerdict, IsIdle}
+use Rattle.commit_protocol.specs.Verdicts.{IsNobody, IsLastFile, HasLast, IsOverlong, IsTable, LimitVerdict, OpenVerdict, OnBase, IsUnfit, IsShort, DrawsUp, CommitVerdict}
 use Rattle.commit_protocol.specs.declared.opening.At.{At}
 use Rattle.commit_protocol.specs.declared.errors.AttemptErr.{AttemptErr}
 use Rattle.commit_protocol.specs.declared.errors.AttemptErr.TheVariants as attempts
@@ -127,7 +128,7 @@ module _ (table : Parts) (allows : Past → Step → Type 0) (nobody : IsNobody 
 
   module _ (meanings : Meanings) (Drawn : ℕ → Type 0) (now_ms : ℕ) where
     abbrev pub Verdict : List Held → Result Committed CommitErr → Type 0
-    Verdict = CommitVerdict meanings Drawn table now_ms
+    Verdict = CommitVerdict HasVersionLimit meanings Drawn table now_ms
 
     abbrev pub Draws : (ℕ → Type 0) → ℕ → Data → Parts → Type 0
     Draws = DrawsUp meanings.successor Drawn table now_ms
@@ -136,17 +137,11 @@ module _ (table : Parts) (allows : Past → Step → Type 0) (nobody : IsNobody 
       same_mid : mid ≡ old
       same_mid = still_open at.place at.text old mid opened.opened
 
-      on_base : (P : ℕ → Data → Type 0) → HasVersionLimit (view at.meta) → P at.version (view at.meta) → OnBase table (replay old).files P
-      on_base P limit holds = record { place = at.place; last = at.version; bytes = at.text; tree = view at.meta; is = table_at at old mid opened; limit = limit; holds = holds }
-
-      still : Idle Anything mid new → new ≡ old
-      still run = same Anything mid new run ∙ same_mid
+      on_base : (P : ℕ → Data → Type 0) → HasVersionLimit (view at.meta) → P at.version (view at.meta) → OnBase HasVersionLimit table (replay old).files P
+      on_base P limit holds = record { place = at.place; last = at.version; bytes = at.text; tree = view at.meta; is = table_at at old mid opened; has = limit; holds = holds }
 
       draws : (d : Drafted Drawn meanings.successor table now_ms at) → Draws IsShort at.version (view at.meta) d.route.draft
       draws d = record { id = d.id; drawn = d.drawn; place = d.draft_is; next = d.writes.next; is = d.writes.is; length_is = subst (λ (b : List ℕ). length b ≤ file_limit) d.writes.written d.short }
-
-      abbrev pub Publish : Route → List ℕ → List Step
-      Publish route bytes = draft_plan route.draft bytes ++ move_plan route
 
       -- the first step of a publish met a free name
       free : (draft : Parts) (bytes : List ℕ) (rest : List Step) (K : Past → Type 0) → Ran (metadata_rules table allows) (Exactly (draft_plan draft bytes ++ rest)) K mid new → is_named (replay old).files draft ≡ false
@@ -155,7 +150,7 @@ module _ (table : Parts) (allows : Past → Step → Type 0) (nobody : IsNobody 
           subst (λ (p : Past). is_named (replay p).files draft ≡ false) same_mid it
 
       -- the target of a publish can't be taken
-      lost : (d : Drafted Drawn meanings.successor table now_ms at) → Ran (metadata_rules table allows) (Exactly (draft_plan d.route.draft d.bytes ++ drop_plan d.route)) (InState (IsLost d.route.target)) mid new → ⊥
+      lost : (d : Drafted Drawn meanings.successor table now_ms at) → Ran (metadata_rules table allows) (Exactly (lost_plan d.route.draft d.bytes)) (InState (IsLost d.route.target)) mid new → ⊥
       lost d run =
           let file = opened_file at.place at.text old mid opened.opened in
           let next : number d.route.target ≡ number at.place + 1 = subst (λ (p : Parts). number d.route.target ≡ number p + 1) d.base_is d.aim.next in
@@ -171,7 +166,7 @@ module _ (table : Parts) (allows : Past → Step → Type 0) (nobody : IsNobody 
           not_named false e never = e
 
       abbrev pub Ends : Result Committed CommitErr → Type 0
-      Ends r = IsIdle r old new × Verdict (replay old).files r
+      Ends r = Verdict (replay old).files r
 
       abbrev pub Leaves : Result Committed CommitErr → Type 0
       Leaves r = AttemptLeaves table allows meanings Drawn now_ms at r mid new
@@ -179,47 +174,47 @@ module _ (table : Parts) (allows : Past → Step → Type 0) (nobody : IsNobody 
       abbrev pub Refusal : AttemptErr → Type 0
       Refusal e = RefusedBy table allows meanings Drawn now_ms at e mid new
 
-      refused : (e : AttemptErr) → Refusal e → (new ≡ old) × OnBase table (replay old).files (λ last tree. meanings.refuses tree e)
-      refused e r = (still r.idle, on_base (λ last tree. meanings.refuses tree e) r.limit r.refuses_it)
+      refused : (e : AttemptErr) → Refusal e → OnBase HasVersionLimit table (replay old).files (λ last tree. meanings.refuses tree e)
+      refused e r = on_base (λ last tree. meanings.refuses tree e) r.limit r.refuses_it
 
       pub attempt_ends : (r : Result Committed CommitErr) → Leaves r → Ends r
-      attempt_ends (Ok (Same v)) a = (still a.4, on_base (λ last tree. (v ≡ last) × meanings.same tree) a.1 (a.0, a.2))
+      attempt_ends (Ok (Same v)) a = on_base (λ last tree. (v ≡ last) × meanings.same tree) a.1 (a.0, a.2)
       attempt_ends (Ok (Published v)) a =
           let d = a.3.drafted in
-          (tt, on_base _ a.1 (a.0, record { draft = d.route.draft; drawn_up = draws d; free = free d.route.draft d.bytes (move_plan d.route) _ a.3.left }))
+          on_base _ a.1 (a.0, record { draft = d.route.draft; drawn_up = draws d; free = free d.route.draft d.bytes (move_plan d.route.draft d.route.target) _ a.3.left })
       attempt_ends (Err (Open e)) a = absurd a
       attempt_ends (Err (Attempt (attempts.Refused refusal))) a = refused (attempts.Refused refusal) a
       attempt_ends (Err (Attempt (attempts.Conflict place other))) a = refused (attempts.Conflict place other) a
-      attempt_ends (Err (Attempt (attempts.NameTaken place))) (inl a) = let r = refused (attempts.NameTaken place) a in (r.0, on_base _ a.limit (inl a.refuses_it))
+      attempt_ends (Err (Attempt (attempts.NameTaken place))) (inl a) = on_base _ a.limit (inl a.refuses_it)
       attempt_ends (Err (Attempt (attempts.NameTaken place))) (inr a) =
           let d = a.drafted in
           let K = IsNameTaken d.route in
           let named : is_named (replay old).files d.route.draft ≡ true = subst (λ (p : Past). is_named (replay p).files d.route.draft ≡ true) same_mid (held K mid new a.left) in
           let draws_place = subst (λ (p : Parts). Draws IsShort at.version (view at.meta) p) (sym a.place_is) (draws d) in
-          (same K mid new a.left ∙ same_mid, on_base _ a.limit (inr (draws_place, subst (λ (p : Parts). is_named (replay old).files p ≡ true) (sym a.place_is) named)))
+          on_base _ a.limit (inr (draws_place, subst (λ (p : Parts). is_named (replay old).files p ≡ true) (sym a.place_is) named))
       attempt_ends (Err (Attempt (attempts.Read (Missing place)))) a = refused (attempts.Read (Missing place)) a
-      attempt_ends (Err (Attempt (attempts.Read (Damaged place where_)))) (inl a) = let r = refused (attempts.Read (Damaged place where_)) a in (r.0, inl r.1)
+      attempt_ends (Err (Attempt (attempts.Read (Damaged place where_)))) (inl a) = inl (refused (attempts.Read (Damaged place where_)) a)
       attempt_ends (Err (Attempt (attempts.Read (Damaged place where_)))) (inr a) =
-          let it : IsUnlimited table (replay old).files at.place = record { last = at.version; bytes = at.text; tree = view at.meta; is = table_at at old mid opened; unlimited = a.1.1 } in
-          (still a.1.2, inr (a.0, subst (λ (p : Parts). IsUnlimited table (replay old).files p) (sym a.1.0) it))
-      attempt_ends (Err (Attempt (attempts.Read (Unsupported place what)))) (inl a) = (still a.idle, on_base _ a.limit (inl a.refuses_it))
+          let it : IsUnfit HasVersionLimit table (replay old).files at.place = record { last = at.version; bytes = at.text; tree = view at.meta; is = table_at at old mid opened; lacks = a.1.1 } in
+          inr (a.0, subst (λ (p : Parts). IsUnfit HasVersionLimit table (replay old).files p) (sym a.1.0) it)
+      attempt_ends (Err (Attempt (attempts.Read (Unsupported place what)))) (inl a) = on_base _ a.limit (inl a.refuses_it)
       attempt_ends (Err (Attempt (attempts.Read (Unsupported place what)))) (inr a) =
           let t = a.1.1 in
-          (still a.1.2, on_base _ a.1.0 (inr (a.0, record { id = t.id; drawn = t.drawn; place = t.place_is; next = t.next; is = t.is; length_is = t.long })))
-      attempt_ends (Err (Attempt (attempts.Read (StoreFault place)))) a = (tt, tt)
-      attempt_ends (Err (Attempt (attempts.Read Memory))) a = (tt, tt)
+          on_base _ a.1.0 (inr (a.0, record { id = t.id; drawn = t.drawn; place = t.place_is; next = t.next; is = t.is; length_is = t.long }))
+      attempt_ends (Err (Attempt (attempts.Read (StoreFault place)))) a = tt
+      attempt_ends (Err (Attempt (attempts.Read Memory))) a = tt
       attempt_ends (Err (Contended v)) a = absurd (lost a.2.drafted a.2.left)
-      attempt_ends (Err (CommitUnknown v)) a = (tt, tt)
+      attempt_ends (Err (CommitUnknown v)) a = tt
 
     abbrev pub Commit : Result Committed CommitErr → Past → Past → Type 0
     Commit = CommitLeaves table allows meanings Drawn now_ms
 
-    attempted_ends : (r : Result Committed CommitErr) (old new : Past) → Attempted table allows meanings Drawn now_ms r old new → IsIdle r old new × Verdict (replay old).files r
+    attempted_ends : (r : Result Committed CommitErr) (old new : Past) → Attempted table allows meanings Drawn now_ms r old new → Verdict (replay old).files r
     attempted_ends r old new a = attempt_ends a.at old a.mid new a.opened r a.then
 
-    pub commit_ends : (r : Result Committed CommitErr) (old new : Past) → Commit r old new → IsIdle r old new × Verdict (replay old).files r
+    pub commit_ends : (r : Result Committed CommitErr) (old new : Past) → Commit r old new → Verdict (replay old).files r
     commit_ends (Ok c) old new a = attempted_ends (Ok c) old new a
-    commit_ends (Err (Open e)) old new a = err_answered e old new a
+    commit_ends (Err (Open e)) old new a = (err_answered e old new a).1
     commit_ends (Err (Attempt e)) old new a = attempted_ends (Err (Attempt e)) old new a
     commit_ends (Err (Contended v)) old new a = attempted_ends (Err (Contended v)) old new a
     commit_ends (Err (CommitUnknown v)) old new a = attempted_ends (Err (CommitUnknown v)) old new a

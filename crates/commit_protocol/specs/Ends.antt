@@ -1,10 +1,11 @@
 -- What work on a table did, by the kind of its end: which steps it took, which versions it published, and which places it left.
-use Rattle.std.specs.Prelude.{◌≡◌, ◌⊎◌, ℕ, ◌+◌, ◌≤◌, Bool, true, false, List, [], ◌∷◌, ◌++◌, length, Option, Some, None, Result}
+use Rattle.std.specs.Prelude.{◌≡◌, ◌⊎◌, ℕ, ◌+◌, ◌≤◌, Bool, true, false, List, [], ◌∷◌, ◌++◌, length, Option, Some, None, Result, Err}
 use Rattle.serde_json.specs.Data.{Data}
 use Rattle.serde_json.specs.View.{view}
 use Rattle.ice_store.specs.Places.{Parts}
 use Rattle.ice_store.specs.Given.{Gives}
 use Rattle.ice_store.specs.History.{later}
+use Rattle.ice_store.specs.Since.{Since}
 use Rattle.ice_store.specs.declared.history.Event.{Event}
 use Rattle.ice_store.specs.declared.history.Failure.{Failure}
 use Rattle.ice_store.specs.declared.history.Past.{Past}
@@ -20,6 +21,7 @@ use Rattle.commit_publish.specs.Kinds as kinds
 use Rattle.commit_publish.specs.Kinds.{Kind, Failing}
 use Rattle.commit_publish.specs.Logs.{left_at}
 use Rattle.commit_publish.specs.Steps.{StopsAt, step_of, publish_plan, lost_plan}
+use Rattle.commit_publish.specs.declared.publish.Log.{Log}
 use Rattle.commit_publish.specs.declared.steps.PublishCall.{PublishCall}
 use Rattle.commit_versions.specs.Opening.{file_limit}
 use Rattle.commit_protocol.specs.Attempts.{Writes}
@@ -29,7 +31,7 @@ use Rattle.commit_protocol.specs.Metadata.{IsAt}
 use Rattle.commit_protocol.specs.Written.{IsOn, draft_at, version_at}
 use Rattle.commit_protocol.specs.declared.committing.Base.{Base}
 use Rattle.commit_protocol.specs.declared.opening.At.{At}
-use Rattle.commit_protocol.specs.declared.errors.AttemptErr.{AttemptErr}
+use Rattle.commit_protocol.specs.declared.errors.Refusal.{Refusal}
 use Rattle.commit_protocol.specs.declared.errors.AttemptErr.TheVariants as attempts
 use Rattle.commit_protocol.specs.declared.errors.CommitErr.{CommitErr}
 use Rattle.commit_protocol.specs.declared.errors.CommitErr.TheVariants as commits
@@ -95,11 +97,11 @@ module _ (successor : Data → Data → Type 0) (Drawn : ℕ → Type 0) (table 
   abbrev pub TookBy : (StoreCall → Type 0) → Kind → List ℕ → List Step → List Parts → Type 0
   TookBy Fails kinds.Done [] steps left = IsNothing steps left
   TookBy Fails kinds.Done (v ∷ versions) steps left = (versions ≡ []) × IsPublished v steps × (left ≡ [])
-  TookBy Fails kinds.Told versions steps left = IsNothing steps left
-  TookBy Fails (kinds.Fault place) versions steps left = (Fails (Look place) × IsNothing steps left) ⊎ ((p : Publish) × IsFailed Fails false p steps left)
-  TookBy Fails (kinds.Unknown version) versions steps left = (p : Publish) × (version ≡ number_of p) × IsFailed Fails true p steps left
-  TookBy Fails (kinds.Lost version) versions steps left = IsBeaten version steps × (left ≡ [])
-  TookBy Fails kinds.Memory versions steps left = IsNothing steps left ⊎ ((p : Publish) × (call : PublishCall) × IsStopped causes.Memory p call steps left)
+  TookBy Fails kinds.Told versions steps left = (versions ≡ []) × IsNothing steps left
+  TookBy Fails (kinds.Fault place) versions steps left = (versions ≡ []) × ((Fails (Look place) × IsNothing steps left) ⊎ ((p : Publish) × IsFailed Fails false p steps left))
+  TookBy Fails (kinds.Unknown version) versions steps left = (versions ≡ []) × ((p : Publish) × (version ≡ number_of p) × IsFailed Fails true p steps left)
+  TookBy Fails (kinds.Lost version) versions steps left = (versions ≡ []) × IsBeaten version steps × (left ≡ [])
+  TookBy Fails kinds.Memory versions steps left = (versions ≡ []) × (IsNothing steps left ⊎ ((p : Publish) × (call : PublishCall) × IsStopped causes.Memory p call steps left))
 
   -- what work did between two moments: its steps, and what the log has of it behind what it had; a failed call is the one that is marked now
   pub record Works (end : End) (mark : Option Failure) (had has : List Parts) (old new : Past) : Type 0 where
@@ -127,18 +129,39 @@ pub record WasOpened (table : Parts) (allows : Past → Step → Type 0) (since 
 
 -- Without a history.
 
--- the new metadata file alone, or with the version's place
+-- the new metadata file, whose name a drawn identifier gives
 abbrev pub IsDraft : (ℕ → Type 0) → Parts → List Parts → Type 0
-IsDraft Drawn table left = (id : ℕ) × (version : ℕ) × Drawn id × ((left ≡ draft_at table id ∷ []) ⊎ (left ≡ draft_at table id ∷ version_at table version ∷ []))
+IsDraft Drawn table left = (id : ℕ) × Drawn id × (left ≡ draft_at table id ∷ [])
 
--- the places behind those that the log had, by the kind of end: new ones only after a failed call or want of memory
+-- that file alone, or with the version's place
+abbrev pub IsDraftOrBoth : (ℕ → Type 0) → Parts → ℕ → List Parts → Type 0
+IsDraftOrBoth Drawn table version left = IsDraft Drawn table left ⊎ ((id : ℕ) × Drawn id × (left ≡ draft_at table id ∷ version_at table version ∷ []))
+
+-- a log has these behind what it had
+abbrev pub Adds : (List Parts → Type 0) → List Parts → List Parts → Type 0
+Adds Left had has = (left : List Parts) × (has ≡ had ++ left) × Left left
+
+-- the places behind those that the log had, by the kind of end: new ones only after a failed call or want of memory, and the version's place only where it isn't known whether it was published
 abbrev pub LeavesBy : (ℕ → Type 0) → Parts → Kind → List Parts → List Parts → Type 0
 LeavesBy Drawn table kinds.Done had has = has ≡ had
 LeavesBy Drawn table kinds.Told had has = has ≡ had
-LeavesBy Drawn table (kinds.Fault place) had has = (has ≡ had) ⊎ ((left : List Parts) × (has ≡ had ++ left) × IsDraft Drawn table left)
-LeavesBy Drawn table (kinds.Unknown version) had has = (left : List Parts) × (has ≡ had ++ left) × IsDraft Drawn table left
+LeavesBy Drawn table (kinds.Fault place) had has = (has ≡ had) ⊎ Adds (IsDraft Drawn table) had has
+LeavesBy Drawn table (kinds.Unknown version) had has = Adds (IsDraftOrBoth Drawn table version) had has
 LeavesBy Drawn table (kinds.Lost version) had has = has ≡ had
-LeavesBy Drawn table kinds.Memory had has = (has ≡ had) ⊎ ((left : List Parts) × (has ≡ had ++ left) × IsDraft Drawn table left)
+LeavesBy Drawn table kinds.Memory had has = (has ≡ had) ⊎ Adds (IsDraft Drawn table) had has
+
+-- a failed call of a publish is told at the table, or at a new metadata file
+abbrev pub IsPublishFault : (ℕ → Type 0) → Parts → Parts → Type 0
+IsPublishFault Drawn table place = (place ≡ table) ⊎ ((id : ℕ) × Drawn id × (place ≡ draft_at table id))
+
+-- a fault of an attempt is told there, or the change refuses a base with it
+abbrev pub TellsFault : Meanings → (ℕ → Type 0) → Parts → Result Committed CommitErr → Type 0
+TellsFault meanings Drawn table result = (place : Parts) → result ≡ Err (commits.Attempt (attempts.Read (reads.StoreFault place)))
+    → ((tree : Data) × meanings.refuses tree (attempts.Read (reads.StoreFault place))) ⊎ IsPublishFault Drawn table place
+
+-- a refusal is one of some base by the change
+abbrev pub IsRefusedBy : Meanings → Result Committed CommitErr → Type 0
+IsRefusedBy meanings result = (refusal : Refusal) → result ≡ Err (commits.Attempt (attempts.Refused refusal)) → (tree : Data) × meanings.refuses tree (attempts.Refused refusal)
 
 -- an error that may come once the new file's name is drawn
 abbrev pub may_draw : CommitErr → Bool
@@ -165,6 +188,24 @@ DrawsBy [] None before after = DrawsOne false before after
 DrawsBy (v ∷ versions) None before after = DrawsOne true before after
 DrawsBy versions (Some e) before after = DrawsOne false before after ⊎ DrawsOne (may_draw e) before after
 
+-- no identifier was drawn, or the change makes a successor of this base
+abbrev pub DrawsFor : Meanings → Data → Option (List ℕ) → Option (List ℕ) → Type 0
+DrawsFor meanings tree before after = (after ≡ before) ⊎ ((built : Data) × meanings.successor tree built)
+
+-- With a history.
+
+-- the table was opened since this moment, and the change makes a successor of it
+pub record HasSuccessor (table : Parts) (allows : Past → Step → Type 0) (meanings : Meanings) (since : Past) : Type 0 where
+  pub at : At
+  pub mid : Past
+  pub opened : IsAt table allows at since mid
+  pub built : Data
+  pub made : meanings.successor (view at.meta) built
+
+-- no identifier was drawn, or the change makes a successor of the base that was opened
+abbrev pub DrawsOn : Parts → (Past → Step → Type 0) → Meanings → Option (List ℕ) → Option (List ℕ) → Past → Past → Type 0
+DrawsOn table allows meanings before after old new = (after ≡ before) ⊎ HasSuccessor table allows meanings old
+
 -- what a publish of this successor of a base did
 abbrev pub PublishedWorks : Parts → (ℕ → Type 0) → ℕ → Base → Data → Result Committed CommitErr → Option Failure → List Parts → List Parts → Past → Past → Type 0
 PublishedWorks table Drawn now base built result mark had has old new = (at : At) → IsOn base at → HasVersionLimit (view at.meta)
@@ -173,3 +214,20 @@ PublishedWorks table Drawn now base built result mark had has old new = (at : At
 -- what a commit did, whose base it opened
 abbrev pub CommitWorks : Parts → (Past → Step → Type 0) → Meanings → (ℕ → Type 0) → ℕ → Result Committed CommitErr → Option Failure → List Parts → List Parts → Past → Past → Type 0
 CommitWorks table allows meanings Drawn now result mark had has old new = Works meanings.successor Drawn table now (WasOpened table allows old) (end_of result) mark had has old new
+
+-- The same of the histories that a store tells at the entry and the exit, of the identifiers given before and after, and of the logs.
+
+-- what a publish of this successor did
+abbrev pub PublishWorked : {T : Type 0} → (T → Option Past) → T → T → Parts → Option (List ℕ) → Option (List ℕ) → ℕ → Base → Data → Result Committed CommitErr → Option Failure → Log → Log → Type 0
+PublishWorked past store store' table given given' now base built result mark log log' =
+    Since (past store) (past store') (PublishedWorks table (Gives given given') now base built result mark log.left.items log'.left.items)
+
+-- what an attempt on this opened table did
+abbrev pub AttemptWorked : {T : Type 0} → (T → Option Past) → T → T → Parts → Meanings → Option (List ℕ) → Option (List ℕ) → ℕ → At → Result Committed CommitErr → Option Failure → Log → Log → Type 0
+AttemptWorked past store store' table meanings given given' now at result mark log log' =
+    Since (past store) (past store') (Works meanings.successor (Gives given given') table now (IsThat at) (end_of result) mark log.left.items log'.left.items)
+
+-- what a commit did
+abbrev pub Worked : {T : Type 0} → (T → Option Past) → T → T → Parts → (Past → Step → Type 0) → Meanings → Option (List ℕ) → Option (List ℕ) → ℕ → Result Committed CommitErr → Option Failure → Log → Log → Type 0
+Worked past store store' table allows meanings given given' now result mark log log' =
+    Since (past store) (past store') (CommitWorks table allows meanings (Gives given given') now result mark log.left.items log'.left.items)

@@ -184,7 +184,7 @@ module _ (Needs : Data → Type 0) (meanings : Meanings) (Drawn : ℕ → Type 0
   abbrev pub EndVerdict : List Held → List ℕ → Option CommitErr → Type 0
   EndVerdict files [] None = OnBase Needs table files (λ last tree. meanings.same tree)
   EndVerdict files (v ∷ versions) None = (versions ≡ []) × IsBuilt files v
-  EndVerdict files versions (Some e) = ErrorVerdict files e
+  EndVerdict files versions (Some e) = (versions ≡ []) × ErrorVerdict files e
 
   -- the cause of a commit's answer
   abbrev pub CommitVerdict : List Held → Result Committed CommitErr → Type 0
@@ -240,10 +240,10 @@ pub record IsDecided (meanings : Meanings) : Type 0 where
 abbrev pub IsOneDrawn : (ℕ → Type 0) → Type 0
 IsOneDrawn Drawn = (a b : ℕ) → Drawn a → Drawn b → a ≡ b
 
--- two told verdicts of one commit are one, whatever is needed of a base
+-- two told verdicts of one commit are one
 abbrev pub IsOneCommit : Parts → ℕ → Meanings → (ℕ → Type 0) → Type 0
-IsOneCommit table now meanings Drawn = (Needs : Data → Type 0) (files : List Held) (r s : Result Committed CommitErr) → IsTold r → IsTold s
-    → CommitVerdict Needs meanings Drawn table now files r → CommitVerdict Needs meanings Drawn table now files s → r ≡ s
+IsOneCommit table now meanings Drawn = (files : List Held) (r s : Result Committed CommitErr) → IsTold r → IsTold s
+    → CommitVerdict HasVersionLimit meanings Drawn table now files r → CommitVerdict HasVersionLimit meanings Drawn table now files s → r ≡ s
 
 -- Exactly.
 

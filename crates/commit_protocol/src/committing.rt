@@ -15,8 +15,9 @@ ghost use Rattle.commit_versions.specs.Latest.{IsBaseNumber};
 ghost use Rattle.commit_versions.specs.Opening.{OpenStage, OpenFaultAt, FileIs};
 ghost use Rattle.commit_versions.specs.declared.types.OpenErr.{OpenErr as TheOpenErr};
 ghost use Rattle.commit_protocol.specs.Attempts.{TellsLimit, AttemptLeaves, CommitLeaves};
-ghost use Rattle.commit_protocol.specs.Ends.{CommitWorks, DrawsBy, IsThat, LeavesBy, PublishedWorks, Works};
+ghost use Rattle.commit_protocol.specs.Ends.{AttemptWorked, DrawsBy, DrawsFor, DrawsOn, IsRefusedBy, LeavesBy, PublishWorked, TellsFault, Worked};
 ghost use Rattle.commit_protocol.specs.Kinds.{end_of, kind_of};
+ghost use Rattle.commit_protocol.specs.Meanings.{only};
 ghost use Rattle.commit_protocol.specs.Metadata.{IsMetadata, metadata_rules};
 ghost use Rattle.commit_protocol.specs.Promises.{StopsHavePrefix, StopsHaveFiles, Succeeds};
 ghost use Rattle.commit_protocol.specs.Verdicts.{IsNobody, IsCaused, IsExactly};
@@ -176,8 +177,10 @@ fn publish_built<M: Manners, S: Store<M>, I: Ids>(
     ensures halted { Marks table.now (kind_of (end_of result)) (S.halted store.old) (S.halted store.new) (S.past store.new) }
     ensures committed { log.new.committed.items ≡ log.old.committed.items ++ (end_of result).versions }
     ensures left { LeavesBy (Gives (I.given ids.old) (I.given ids.new)) table.now (kind_of (end_of result)) log.old.left.items log.new.left.items }
-    ensures works { Since (S.past store.old) (S.past store.new) (PublishedWorks table.now (Gives (I.given ids.old) (I.given ids.new)) now base (view meta) result (S.halted store.new) log.old.left.items log.new.left.items) }
+    ensures works { PublishWorked S.past store.old store.new table.now (I.given ids.old) (I.given ids.new) now base (view meta) result (S.halted store.new) log.old log.new }
     ensures drawn { DrawsBy (end_of result).versions (end_of result).error (I.given ids.old) (I.given ids.new) }
+    ensures refused { IsRefusedBy (only (view meta)) result }
+    ensures fault_place { TellsFault (only (view meta)) (Gives (I.given ids.old) (I.given ids.new)) table.now result }
     ensures unopened { (e : TheOpenErr) → result ≡ Err (CommitErr.Open e) → ⊥ }
 {
     let id = ids.next();
@@ -234,8 +237,11 @@ fn attempt_on<M: Manners, S: Store<M>, I: Ids, X: Change<M>>(
     ensures halted { Marks table.now (kind_of (end_of result)) (S.halted store.old) (S.halted store.new) (S.past store.new) }
     ensures committed { log.new.committed.items ≡ log.old.committed.items ++ (end_of result).versions }
     ensures left { LeavesBy (Gives (I.given ids.old) (I.given ids.new)) table.now (kind_of (end_of result)) log.old.left.items log.new.left.items }
-    ensures works { Since (S.past store.old) (S.past store.new) (Works (X.meanings change.old change.new).successor (Gives (I.given ids.old) (I.given ids.new)) table.now now (IsThat at) (end_of result) (S.halted store.new) log.old.left.items log.new.left.items) }
+    ensures works { AttemptWorked S.past store.old store.new table.now (X.meanings change.old change.new) (I.given ids.old) (I.given ids.new) now at result (S.halted store.new) log.old log.new }
     ensures drawn { DrawsBy (end_of result).versions (end_of result).error (I.given ids.old) (I.given ids.new) }
+    ensures drawn_for { DrawsFor (X.meanings change.old change.new) (view at.meta) (I.given ids.old) (I.given ids.new) }
+    ensures refused { IsRefusedBy (X.meanings change.old change.new) result }
+    ensures fault_place { TellsFault (X.meanings change.old change.new) (Gives (I.given ids.old) (I.given ids.new)) table.now result }
     ensures unopened { (e : TheOpenErr) → result ≡ Err (CommitErr.Open e) → ⊥ }
 {
     if !at.meta.has_version_limit() {
@@ -285,8 +291,11 @@ pub fn commit<M: Manners, S: Store<M>, I: Ids, X: Change<M>>(
     ensures halted { Marks table.now (kind_of (end_of result)) (S.halted store.old) (S.halted store.new) (S.past store.new) }
     ensures committed { log.new.committed.items ≡ log.old.committed.items ++ (end_of result).versions }
     ensures left { LeavesBy (Gives (I.given ids.old) (I.given ids.new)) table.now (kind_of (end_of result)) log.old.left.items log.new.left.items }
-    ensures works { Since (S.past store.old) (S.past store.new) (CommitWorks table.now (M.allows (S.manners store.old)) (X.meanings change.old change.new) (Gives (I.given ids.old) (I.given ids.new)) now result (S.halted store.new) log.old.left.items log.new.left.items) }
+    ensures works { Worked S.past store.old store.new table.now (M.allows (S.manners store.old)) (X.meanings change.old change.new) (I.given ids.old) (I.given ids.new) now result (S.halted store.new) log.old log.new }
     ensures drawn { DrawsBy (end_of result).versions (end_of result).error (I.given ids.old) (I.given ids.new) }
+    ensures drawn_for { Since (S.past store.old) (S.past store.new) (DrawsOn table.now (M.allows (S.manners store.old)) (X.meanings change.old change.new) (I.given ids.old) (I.given ids.new)) }
+    ensures refused { IsRefusedBy (X.meanings change.old change.new) result }
+    ensures fault_place { TellsFault (X.meanings change.old change.new) (Gives (I.given ids.old) (I.given ids.new)) table.now result }
     ensures opening { (e : TheOpenErr) → result ≡ Err (CommitErr.Open e) → OpenFaultAt table.now e }
     ensures alone { IsNobody (M.allows (S.manners store.old)) → Since (S.past store.old) (S.past store.new) (IsCaused (X.meanings change.old change.new) (Gives (I.given ids.old) (I.given ids.new)) table.now now result) }
     ensures exactly { Since (S.past store.old) (S.past store.new) (IsExactly (M.allows (S.manners store.old)) (X.meanings change.old change.new) (Gives (I.given ids.old) (I.given ids.new)) table.now now result) }

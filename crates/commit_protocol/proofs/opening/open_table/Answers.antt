@@ -77,3 +77,11 @@ returns-in-Err-clause-exactly g c nobody =
     let result = Err c.in-Err.e in
     since_turned (g.S.Store.past c.args.store.now) (g.S.Store.past c.open_version.new.store) (λ old new. OpenVerdict t (replay old).files result) (λ old new. IsExactOpening t result (replay old).files) (returns-in-Err-clause-alone g c nobody)
     (λ old new v. λ r told w answered. one_opening_of t (replay old).files result r answered told v w)
+
+pub returns-in-Ok-clause-cause : goal.returns-in-Ok-clause-cause
+returns-in-Ok-clause-cause g c =
+    opening.reads_counts c.args.table.now c.in-Ok.opened c.read_table.result (g.S.Store.faults c.args.store.now) (g.S.Store.faults c.open_version.new.store) c.read_table.ensures c.in-Ok.ensures.cause
+
+pub returns-in-Ok-clause-halted : goal.returns-in-Ok-clause-halted
+returns-in-Ok-clause-halted g c =
+    opening.reads_marks c.args.table.now c.in-Ok.opened c.read_table.result (g.S.Store.halted c.args.store.now) (g.S.Store.halted c.open_version.new.store) (g.S.Store.past c.open_version.new.store) c.read_table.ensures c.in-Ok.ensures.halted
