@@ -91,7 +91,7 @@ module _ (table : Parts) (meanings : Meanings) (Drawn : ℕ → Type 0) (now : �
   pub end_caused : (files : List Held) (r : Result Committed CommitErr) → CommitVerdict HasVersionLimit meanings Drawn table now files r → EndVerdict HasVersionLimit unasked Drawn table now files (end_of r).versions (end_of r).error
   end_caused files (Ok (Same v)) c = record { place = c.place; last = c.last; bytes = c.bytes; tree = c.tree; is = c.is; has = c.has; holds = c.holds.1 }
   end_caused files (Ok (Published v)) c = (refl, c)
-  end_caused files (Err e) c = error_caused files e c
+  end_caused files (Err e) c = (refl, error_caused files e c)
 
   -- the table was opened as it stood at the entry
   opened_table : (old : Past) (place : Parts) (last : ℕ) (text : List ℕ) (tree : Data) → WasOpened table Nobody old place last text tree → IsTable table (replay old).files place last text tree

@@ -79,13 +79,13 @@ module _ (word : ℕ) (table : Parts) (given : Option ℤ) (now : ℕ) (Drawn : 
 
     pub did_refuse : (id : ℤ) → Lists given tree (Err (Lacks id)) → DidSo (Some (Attempt (Refused (UnknownSnapshot id))))
     did_refuse id lacks = did_nothing task now Drawn (Some (Attempt (Refused (UnknownSnapshot id)))) mark had old
-        (record { place = place; last = last; bytes = bytes; tree = tree; is = is; has = tt; holds = (id, lacks, refl) }) tt tt
+        (refl, record { place = place; last = last; bytes = bytes; tree = tree; is = is; has = tt; holds = (id, lacks, refl) }) tt tt
 
   pub did_stop : DidSo (Some (Attempt (Read Memory)))
-  did_stop = did_nothing task now Drawn (Some (Attempt (Read Memory))) mark had old tt tt tt
+  did_stop = did_nothing task now Drawn (Some (Attempt (Read Memory))) mark had old (refl, tt) tt tt
 
   pub did_not_open : (e : OpenErr) → OpenVerdict table (replay old).files (Err e) → LooksBy (Failing mark old) (open_kind e) → DidSo (Some (Open e))
-  did_not_open e cause looks = did_nothing task now Drawn (Some (Open e)) mark had old cause (error_rests e old) looks
+  did_not_open e cause looks = did_nothing task now Drawn (Some (Open e)) mark had old (refl, cause) (error_rests e old) looks
 
 -- where nothing happened
 pub since_still : (o : Option Past) (C : Past → Type 0) (R T : Past → Past → Type 0) → WhereTold o C → Since o o R → ((old : Past) → C old → R old old → T old old) → Since o o T
