@@ -1,5 +1,5 @@
 -- What a statement that commits did, by its end.
-use Rattle.std.proofs.Common.{◌≡◌, ℕ, ℤ, List, [], ◌∷◌, Option, Some, None, Result, Ok, Err, refl, sym, ap, ◌∙◌, subst}
+use Rattle.std.proofs.Common.{◌≡◌, inl, inr, ℕ, ℤ, List, [], ◌∷◌, Option, Some, None, Result, Ok, Err, refl, sym, ap, ◌∙◌, subst}
 use Rattle.serde_json.specs.Data.{Data}
 use Rattle.serde_json.specs.View.{view}
 use Rattle.ice_store.specs.Others.{WhereTold}
@@ -16,7 +16,7 @@ use Rattle.commit_publish.specs.Steps.{Anything}
 use Rattle.commit_versions.specs.declared.types.OpenErr.{OpenErr}
 use Rattle.commit_versions.specs.declared.types.OpenErr.TheVariants as opens
 use Rattle.commit_protocol.specs.Attempts.{Attempted, CommitLeaves}
-use Rattle.commit_protocol.specs.Ends.{CommitWorks, WasOpened, Works}
+use Rattle.commit_protocol.specs.Ends.{CommitWorks, IsPublishFault, TellsFault, WasOpened, Works}
 use Rattle.commit_protocol.specs.Kinds.{End, commit_kind, end_of, kind_of}
 use Rattle.commit_protocol.specs.Meanings.{Meanings}
 use Rattle.commit_protocol.specs.Metadata.{metadata_reading, metadata_rules}
@@ -91,7 +91,7 @@ module _ (table : Parts) (meanings : Meanings) (Drawn : ℕ → Type 0) (now : �
   pub end_caused : (files : List Held) (r : Result Committed CommitErr) → CommitVerdict HasVersionLimit meanings Drawn table now files r → EndVerdict HasVersionLimit unasked Drawn table now files (end_of r).versions (end_of r).error
   end_caused files (Ok (Same v)) c = record { place = c.place; last = c.last; bytes = c.bytes; tree = c.tree; is = c.is; has = c.has; holds = c.holds.1 }
   end_caused files (Ok (Published v)) c = (refl, c)
-  end_caused files (Err e) c = error_caused files e c
+  end_caused files (Err e) c = (refl, error_caused files e c)
 
   -- the table was opened as it stood at the entry
   opened_table : (old : Past) (place : Parts) (last : ℕ) (text : List ℕ) (tree : Data) → WasOpened table Nobody old place last text tree → IsTable table (replay old).files place last text tree
@@ -155,17 +155,25 @@ pub answers_done : (word : ℕ) (c : Committed) (status : Status) → IsEnd stat
 answers_done word (Same v) status e = e
 answers_done word (Published v) status e = e
 
-pub refused_by : (P : Refusal → Type 0) (r : Result Committed CommitErr) → ((refusal : Refusal) → r ≡ Err (Attempt (attempts.Refused refusal)) → P refusal) → (refusal : Refusal) → (end_of r).error ≡ Some (Attempt (attempts.Refused refusal)) → P refusal
-refused_by P (Ok (Same v)) turn refusal is = absurd (cc (is))
-refused_by P (Ok (Published v)) turn refusal is = absurd (cc (is))
-refused_by P (Err e) turn refusal is = let same : e ≡ Attempt (attempts.Refused refusal) = cc (is) in turn refusal (ap (λ (x : CommitErr). Err x) same)
+pub error_of : (r : Result Committed CommitErr) (e : CommitErr) → (end_of r).error ≡ Some e → r ≡ Err e
+error_of (Ok (Same v)) e is = absurd (cc (is))
+error_of (Ok (Published v)) e is = absurd (cc (is))
+error_of (Err x) e is = let same : x ≡ e = cc (is) in ap (λ (y : CommitErr). Err y) same
 
-pub opened_by : (P : OpenErr → Type 0) (r : Result Committed CommitErr) → ((e : OpenErr) → r ≡ Err (Open e) → P e) → (e : OpenErr) → (end_of r).error ≡ Some (Open e) → P e
-opened_by P (Ok (Same v)) turn e is = absurd (cc (is))
-opened_by P (Ok (Published v)) turn e is = absurd (cc (is))
-opened_by P (Err x) turn e is = let same : x ≡ Open e = cc (is) in turn e (ap (λ (y : CommitErr). Err y) same)
+-- an error tells no versions
+pub tells_none : (r : Result Committed CommitErr) (e : CommitErr) → (end_of r).error ≡ Some e → (end_of r).versions ≡ []
+tells_none (Ok (Same v)) e is = absurd (cc (is))
+tells_none (Ok (Published v)) e is = absurd (cc (is))
+tells_none (Err x) e is = refl
 
 -- A move of a ref.
+
+-- a move refuses no base with a failed call, so that of an attempt is one of its publish
+pub move_fault : (goal : Goal) (now : ℕ) (Seen : Data → Type 0) (Drawn : ℕ → Type 0) (table : Parts) (r : Result Committed CommitErr) → TellsFault (moves_of goal now Seen) Drawn table r
+    → (place : Parts) → (end_of r).error ≡ Some (Attempt (attempts.Read (StoreFault place))) → IsPublishFault Drawn table place
+move_fault goal now Seen Drawn table r tells place is =
+    let told = error_of r (Attempt (attempts.Read (StoreFault place))) is in
+    elim (tells place told) [ inl refused ↦ absurd refused.1 | inr at ↦ at ]
 
 module _ (word : ℕ) (table : Parts) (goal : Goal) (now : ℕ) (Drawn : ℕ → Type 0) (Seen : Data → Type 0) where
   abbrev pub task : Task

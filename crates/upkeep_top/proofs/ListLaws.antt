@@ -28,9 +28,11 @@ use Rattle.run_refs.specs.Ancestors.{Lists}
 use Rattle.run_refs.specs.Procedures.{RefusesListing, list_procedure}
 use Rattle.run_refs.specs.Reports.{list_report}
 use Rattle.run_refs.specs.declared.ancestors.Ancestor.{Ancestor}
-use Rattle.upkeep_top.specs.Statements.{Nobody, Did, Reports, ReportsOn, RestsBy}
+use Rattle.upkeep_top.specs.Points.{Point}
+use Rattle.upkeep_top.specs.Statements.{Nobody, Did, Ends, Reports, ReportsOn, RestsBy}
 use Rattle.upkeep_top.specs.Verdicts.{OnTable, TaskVerdict, meanings_of}
 use Rattle.upkeep_top.specs.declared.task.Task.{Task}
+use Rattle.upkeep_top.specs.declared.task.Work.{Work}
 use Rattle.upkeep_top.specs.declared.task.Work.TheVariants.{List as Listing}
 use Rattle.upkeep_top.proofs.StepLaws.{ran_none, safe_none}
 
@@ -77,13 +79,13 @@ module _ (word : ℕ) (table : Parts) (given : Option ℤ) (now : ℕ) (Drawn : 
 
     pub did_refuse : (id : ℤ) → Lists given tree (Err (Lacks id)) → DidSo (Some (Attempt (Refused (UnknownSnapshot id))))
     did_refuse id lacks = did_nothing task now Drawn (Some (Attempt (Refused (UnknownSnapshot id)))) mark had old
-        (record { place = place; last = last; bytes = bytes; tree = tree; is = is; has = tt; holds = (id, lacks, refl) }) tt tt
+        (refl, record { place = place; last = last; bytes = bytes; tree = tree; is = is; has = tt; holds = (id, lacks, refl) }) tt tt
 
   pub did_stop : DidSo (Some (Attempt (Read Memory)))
-  did_stop = did_nothing task now Drawn (Some (Attempt (Read Memory))) mark had old tt tt tt
+  did_stop = did_nothing task now Drawn (Some (Attempt (Read Memory))) mark had old (refl, tt) tt tt
 
   pub did_not_open : (e : OpenErr) → OpenVerdict table (replay old).files (Err e) → LooksBy (Failing mark old) (open_kind e) → DidSo (Some (Open e))
-  did_not_open e cause looks = did_nothing task now Drawn (Some (Open e)) mark had old cause (error_rests e old) looks
+  did_not_open e cause looks = did_nothing task now Drawn (Some (Open e)) mark had old (refl, cause) (error_rests e old) looks
 
 -- where nothing happened
 pub since_still : (o : Option Past) (C : Past → Type 0) (R T : Past → Past → Type 0) → WhereTold o C → Since o o R → ((old : Past) → C old → R old old → T old old) → Since o o T
@@ -104,3 +106,8 @@ since_idle o a C R T still told s turn =
 pub refuses_lack : (given : Option ℤ) (tree : Data) (id : ℤ) → Lists given tree (Err (Lacks id)) → (refusal : Refusal)
     → ◌≡◌ {A = Option CommitErr} (Some (Attempt (Refused (UnknownSnapshot id)))) (Some (Attempt (Refused refusal))) → (base : Data) × RefusesListing given base (Refused refusal)
 refuses_lack given tree id lacks refusal is = let same : refusal ≡ UnknownSnapshot id = cc (is) in (tree, (id, lacks, cc (same)))
+
+-- A statement whose work is this one.
+
+pub ends_of : (task : Task) (work : Work) (status : Status) (p q : Point) → work ≡ task.work → Ends (record { word = task.word; table = task.table; work = work }) status p q → Ends task status p q
+ends_of task work status p q same ends = subst (λ (w : Work). Ends (record { word = task.word; table = task.table; work = w }) status p q) same ends

@@ -19,9 +19,8 @@ use Rattle.run_refs.specs.Procedures.{list_procedure}
 use Rattle.upkeep_top.specs.Points.{at, moment, noted, tells}
 use Rattle.upkeep_top.specs.Statements.{Ends, Did, ReportedBy}
 use Rattle.upkeep_top.specs.declared.task.Task.{Task}
-use Rattle.upkeep_top.specs.declared.task.Work.{Work}
 use Rattle.upkeep_top.specs.declared.task.Work.TheVariants.{List as Listing}
-use Rattle.upkeep_top.proofs.ListLaws.{did_list, did_not_open, did_refuse, did_stop, refuses_lack, reports_list, since_idle, stops}
+use Rattle.upkeep_top.proofs.ListLaws.{did_list, did_not_open, did_refuse, did_stop, ends_of, refuses_lack, reports_list, since_idle, stops}
 use Rattle.upkeep_top.proofs.StatusLaws.{not_output}
 use Rattle.upkeep_top.proofs.statement.run_list.Goals as goal
 
@@ -62,6 +61,8 @@ returns-in-Ok g c =
         halted = e.halted;
         refused = λ refusal is. absurd (cc (is));
         opening = λ x is. absurd (cc (is));
+        fault = λ place is. absurd (cc (is));
+        none = λ x is. refl;
         output_faults = c.list_on.ensures.cause;
       }
       | inr (inl lacks) ↦ record {
@@ -79,6 +80,8 @@ returns-in-Ok g c =
         halted = e.halted;
         refused = refuses_lack given tree lacks.0 lacks.1;
         opening = λ x is. absurd (cc (is));
+        fault = λ place is. absurd (cc (is));
+        none = λ x is. refl;
         output_faults = c.list_on.ensures.cause;
       }
       | inr (inr memory) ↦ record {
@@ -96,10 +99,12 @@ returns-in-Ok g c =
         halted = e.halted;
         refused = λ refusal is. absurd (cc (is));
         opening = λ x is. absurd (cc (is));
+        fault = λ place is. absurd (cc (is));
+        none = λ x is. refl;
         output_faults = c.list_on.ensures.cause;
       }
     ] in
-    subst (λ (x : Task). Ends x status p q) (ap (λ (x : Work). record { word = w.word; table = w.table; work = x }) (sym c.requires.work)) ends
+    ends_of w (Listing given) status p q (sym c.requires.work) ends
 
 pub returns-in-Err : goal.returns-in-Err
 returns-in-Err g c =
@@ -135,6 +140,8 @@ returns-in-Err g c =
       halted = marks_of_open w.table (open_kind error) p.halted q.halted q.past e.halted;
       refused = λ refusal is. absurd (cc (is));
       opening = λ x is. let same : error ≡ x = cc (is) in subst (λ (y : OpenErr). OpenFaultAt w.table y) same e.place;
+      fault = λ place is. absurd (cc (is));
+      none = λ x is. refl;
       output_faults = record { rose = λ d. absurd (not_output w.word (Open error) status c.status_of_open.ensures d); kept = λ d. refl };
     } in
-    subst (λ (x : Task). Ends x status p q) (ap (λ (x : Work). record { word = w.word; table = w.table; work = x }) (sym c.requires.work)) ends
+    ends_of w (Listing given) status p q (sym c.requires.work) ends

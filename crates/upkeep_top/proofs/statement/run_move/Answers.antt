@@ -1,30 +1,27 @@
-use Rattle.std.proofs.Common.{◌≡◌, arith, inl, [], Option, Some, Ok, Err, refl, sym, ap, ◌∙◌, subst, append-nil}
+use Rattle.std.proofs.Common.{◌≡◌, arith, inl, ℕ, [], Option, Some, Result, Ok, Err, refl, sym, ap, ◌∙◌, subst, append-nil}
 use Rattle.serde_json.specs.Data.{Data}
 use Rattle.ice_store.specs.Given.{Gives}
 use Rattle.ice_store.specs.History.{replay}
 use Rattle.ice_store.proofs.SinceLaws.{since_start, since_turned}
 use Rattle.ice_store.specs.declared.faults.ReadErr.TheVariants.{Memory}
 use Rattle.ice_store.specs.declared.history.Past.{Past}
-use Rattle.commit_versions.specs.Opening.{OpenFaultAt}
 use Rattle.commit_protocol.specs.Attempts.{CommitLeaves}
 use Rattle.commit_protocol.specs.Kinds.{End, end_of}
-use Rattle.commit_protocol.specs.Meanings.{Meanings}
 use Rattle.commit_protocol.specs.declared.errors.AttemptErr.TheVariants.{Read, Refused}
 use Rattle.commit_protocol.specs.declared.errors.CommitErr.{CommitErr}
-use Rattle.commit_protocol.specs.declared.errors.CommitErr.TheVariants.{Attempt}
-use Rattle.commit_protocol.specs.declared.errors.Refusal.{Refusal}
+use Rattle.commit_protocol.specs.declared.errors.CommitErr.TheVariants.{Attempt, Open}
+use Rattle.commit_protocol.specs.declared.errors.Committed.{Committed}
 use Rattle.run_answers.specs.declared.status.Status.TheVariants.{OutOfMemory}
 use Rattle.run_refs.specs.Meanings.{moves_of}
-use Rattle.run_refs.specs.Moves.{HasSeen, RefusesMove}
+use Rattle.run_refs.specs.Moves.{HasSeen}
 use Rattle.run_refs.specs.Procedures.{move_procedure}
 use Rattle.run_refs.specs.Reports.{move_report}
-use Rattle.upkeep_top.specs.Points.{Objects, Tells, at, moment, noted, tells}
+use Rattle.upkeep_top.specs.Points.{at, moment, noted, tells}
 use Rattle.upkeep_top.specs.Statements.{Ends, Did, ReportedBy}
 use Rattle.upkeep_top.specs.declared.task.Task.{Task}
-use Rattle.upkeep_top.specs.declared.task.Work.{Work}
 use Rattle.upkeep_top.specs.declared.task.Work.TheVariants.{Move}
-use Rattle.upkeep_top.proofs.EndLaws.{Commits, answers_done, did_move, opened_by, refused_by, report_move}
-use Rattle.upkeep_top.proofs.ListLaws.{did_nothing, stops}
+use Rattle.upkeep_top.proofs.EndLaws.{Commits, answers_done, did_move, error_of, move_fault, report_move, tells_none}
+use Rattle.upkeep_top.proofs.ListLaws.{did_nothing, ends_of, stops}
 use Rattle.upkeep_top.proofs.StatusLaws.{not_output}
 use Rattle.upkeep_top.proofs.statement.run_move.Goals as goal
 
@@ -45,7 +42,7 @@ returns-in_default g c =
       moment = c.now_ms-now.ensures.given;
       end = stops error;
       answers = refl;
-      did = since_start p.past (λ past. (replay past).pending ≡ []) does c.requires.start (λ old rest. did_nothing made now Drawn error p.halted p.left old tt tt tt);
+      did = since_start p.past (λ past. (replay past).pending ≡ []) does c.requires.start (λ old rest. did_nothing made now Drawn error p.halted p.left old (refl, tt) tt tt);
       report = since_start p.past (λ past. (replay past).pending ≡ []) reports c.requires.start (λ old rest. refl);
       committed = sym (append-nil p.committed);
       left = inl refl;
@@ -55,9 +52,11 @@ returns-in_default g c =
       halted = refl;
       refused = λ refusal is. absurd (cc (is));
       opening = λ e is. absurd (cc (is));
+      fault = λ place is. absurd (cc (is));
+      none = λ e is. refl;
       output_faults = record { rose = λ e. absurd (cc (e)); kept = λ e. refl };
     } in
-    subst (λ (x : Task). Ends x OutOfMemory p q) (ap (λ (x : Work). record { word = w.word; table = w.table; work = x }) (sym c.requires.work)) ends
+    ends_of w (Move c.args.goal.now) OutOfMemory p q (sym c.requires.work) ends
 
 pub returns-in-Ok-commit : goal.returns-in-Ok-commit
 returns-in-Ok-commit g c =
@@ -73,17 +72,18 @@ returns-in-Ok-commit g c =
     let q = moment t (at c.commit.new.store c.now_ms-now.new.self c.commit.new.ids c.put_report.new.out (noted c.commit.new.log)) in
     let Drawn = Gives p.identifiers q.identifiers in
     let done = c.in-Ok-commit.field-0 in
-    let end : End = end_of (Ok done) in
+    let answer : Result Committed CommitErr = Ok done in
+    let end : End = end_of answer in
     let e = c.in-Ok-commit.ensures in
     let Seen : Data → Type 0 = λ tree. (s.goal ≡ r.goal) × HasSeen r.goal tree s.previous s.id in
-    let Made = λ moment. Commits w.table (moves_of r.goal moment Seen) Drawn now (Ok done) q.halted p.left q.left p.past q.past in
+    let Made : ℕ → Type 0 = λ m. Commits w.table (moves_of r.goal m Seen) Drawn now answer q.halted p.left q.left p.past q.past in
     let commits = subst Made c.new-change.ensures.now (record { told = e.told; works = e.works; caused = e.alone (λ past step h. h); succeeds = e.successors (λ past step h. h); refused = e.refused }) in
     let ends : Ends made status p q = record {
       now = now;
       moment = c.now_ms-now.ensures.given;
       end = end;
       answers = answers_done w.word done status c.put_report.ensures.status;
-      did = did_move w.word w.table r.goal now Drawn Seen (Ok done) q.halted p.left q.left p.past q.past commits c.requires.start;
+      did = did_move w.word w.table r.goal now Drawn Seen answer q.halted p.left q.left p.past q.past commits c.requires.start;
       report = report_move w.word w.table r.goal now Drawn Seen s.goal s.previous s.id (λ tree seen. seen) status p.output q.output done p.past q.past (c.put_report.ensures.reports (move_report s.goal s.previous s.id) c.report.ensures) commits.told;
       committed = e.committed;
       left = e.left;
@@ -91,11 +91,13 @@ returns-in-Ok-commit g c =
       faults = e.cause;
       later = e.later;
       halted = e.halted;
-      refused = refused_by (λ refusal. (tree : Data) × RefusesMove r.goal tree (Refused refusal)) (Ok done) commits.refused;
-      opening = opened_by (OpenFaultAt w.table) (Ok done) e.opening;
+      refused = λ refusal is. commits.refused refusal (error_of answer (Attempt (Refused refusal)) is);
+      opening = λ x is. e.opening x (error_of answer (Open x) is);
+      fault = move_fault r.goal r.now Seen Drawn w.table answer e.fault_place;
+      none = tells_none answer;
       output_faults = c.put_report.ensures.cause;
     } in
-    subst (λ (x : Task). Ends x status p q) (ap (λ (x : Work). record { word = w.word; table = w.table; work = x }) (ap Move goals ∙ sym c.requires.work)) ends
+    ends_of w (Move r.goal) status p q (ap Move goals ∙ sym c.requires.work) ends
 
 pub returns : goal.returns
 returns g c =
@@ -111,17 +113,18 @@ returns g c =
     let q = moment t (at c.commit.new.store c.now_ms-now.new.self c.commit.new.ids c.args.out.now (noted c.commit.new.log)) in
     let Drawn = Gives p.identifiers q.identifiers in
     let error = c.in-Err.e in
+    let answer : Result Committed CommitErr = Err error in
     let e = c.in-Err.ensures in
     let Seen : Data → Type 0 = λ tree. (s.goal ≡ r.goal) × HasSeen r.goal tree s.previous s.id in
-    let Made = λ moment. Commits w.table (moves_of r.goal moment Seen) Drawn now (Err error) q.halted p.left q.left p.past q.past in
+    let Made : ℕ → Type 0 = λ m. Commits w.table (moves_of r.goal m Seen) Drawn now answer q.halted p.left q.left p.past q.past in
     let commits = subst Made c.new-change.ensures.now (record { told = e.told; works = e.works; caused = e.alone (λ past step h. h); succeeds = e.successors (λ past step h. h); refused = e.refused }) in
     let Told : Past → Past → Type 0 = CommitLeaves w.table (λ past step. ⊥) (moves_of r.goal now Seen) Drawn now (Err error) in
     let ends : Ends made status p q = record {
       now = now;
       moment = c.now_ms-now.ensures.given;
-      end = end_of (Err error);
+      end = end_of answer;
       answers = c.status_of_error.ensures;
-      did = did_move w.word w.table r.goal now Drawn Seen (Err error) q.halted p.left q.left p.past q.past commits c.requires.start;
+      did = did_move w.word w.table r.goal now Drawn Seen answer q.halted p.left q.left p.past q.past commits c.requires.start;
       report = since_turned p.past q.past Told (λ old new. p.output ≡ p.output) commits.told (λ old new h. refl);
       committed = e.committed;
       left = e.left;
@@ -129,8 +132,10 @@ returns g c =
       faults = e.cause;
       later = e.later;
       halted = e.halted;
-      refused = refused_by (λ refusal. (tree : Data) × RefusesMove r.goal tree (Refused refusal)) (Err error) commits.refused;
-      opening = opened_by (OpenFaultAt w.table) (Err error) e.opening;
+      refused = λ refusal is. commits.refused refusal (error_of answer (Attempt (Refused refusal)) is);
+      opening = λ x is. e.opening x (error_of answer (Open x) is);
+      fault = move_fault r.goal r.now Seen Drawn w.table answer e.fault_place;
+      none = tells_none answer;
       output_faults = record { rose = λ d. absurd (not_output w.word error status c.status_of_error.ensures d); kept = λ d. refl };
     } in
-    subst (λ (x : Task). Ends x status p q) (ap (λ (x : Work). record { word = w.word; table = w.table; work = x }) (ap Move goals ∙ sym c.requires.work)) ends
+    ends_of w (Move r.goal) status p q (ap Move goals ∙ sym c.requires.work) ends
