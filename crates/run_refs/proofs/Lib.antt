@@ -1,5 +1,5 @@
 pub mod AimLaws
 pub mod AimTexts
 pub mod ListingLaws
-mod ProcedureLaws
+pub mod ProcedureLaws
 pub mod RefLaws

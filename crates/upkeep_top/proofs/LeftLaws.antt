@@ -51,15 +51,15 @@ module _ (successor : Data → Data → Type 0) (Drawn : ℕ → Type 0) (table 
   -- where no version is told
   kind_left : (kind : Kind) (steps : List Step) (left : List Parts) → Counts kind before after → Did kind [] steps left → Left 0 steps left
   kind_left kinds.Done steps left counts t = nothing steps left t.0 t.1
-  kind_left kinds.Told steps left counts t = nothing steps left t.0 t.1
-  kind_left (kinds.Fault place) steps left counts (inl t) = nothing steps left t.1.0 t.1.1
-  kind_left (kinds.Fault place) steps left counts (inr t) = failed false t.0 steps left counts t.1
-  kind_left (kinds.Unknown version) steps left counts t = failed true t.0 steps left counts t.2
+  kind_left kinds.Told steps left counts t = nothing steps left t.1.0 t.1.1
+  kind_left (kinds.Fault place) steps left counts (none, inl t) = nothing steps left t.1.0 t.1.1
+  kind_left (kinds.Fault place) steps left counts (none, inr t) = failed false t.0 steps left counts t.1
+  kind_left (kinds.Unknown version) steps left counts (none, t) = failed true t.0 steps left counts t.2
   kind_left (kinds.Lost version) steps left counts t =
-      let p = t.0.publish in
-      alike 0 steps (lost_plan (draft p) p.bytes) left [] t.0.steps_are t.1 (exact (Rose before after) mark 0 (lost_plan (draft p) p.bytes) [] (sym (without_only (draft p))))
-  kind_left kinds.Memory steps left counts (inl t) = nothing steps left t.0 t.1
-  kind_left kinds.Memory steps left counts (inr t) =
+      let p = t.1.publish in
+      alike 0 steps (lost_plan (draft p) p.bytes) left [] t.1.steps_are t.2 (exact (Rose before after) mark 0 (lost_plan (draft p) p.bytes) [] (sym (without_only (draft p))))
+  kind_left kinds.Memory steps left counts (none, inl t) = nothing steps left t.0 t.1
+  kind_left kinds.Memory steps left counts (none, inr t) =
       let p = t.0 in
       alike 0 steps (steps_before (draft p) (target p) p.bytes t.1) left (left_at (draft p) (target p) t.1 Memory) t.2.steps_are t.2.left_is
       (exact (Rose before after) mark 0 (steps_before (draft p) (target p) p.bytes t.1) (left_at (draft p) (target p) t.1 Memory) (unmade_at (draft p) (target p) p.bytes (Rose before after) mark t.1))

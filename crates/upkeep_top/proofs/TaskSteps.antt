@@ -92,9 +92,9 @@ all_done tasks first more is i past_end within o q led =
 -- Moments whose values agree.
 
 module _ {S C I O : Type 0} (t : Tells S C I O) where
-  pub same_moment : {store store' : S} {clock clock' : C} {ids ids' : I} {out out' : O} {notes notes' : Notes} → store ≡ store' → clock ≡ clock' → ids ≡ ids' → out ≡ out' → notes ≡ notes' → moment t (at store clock ids out notes) ≡ moment t (at store' clock' ids' out' notes')
+  pub same_moment : {store store' : S} {clock clock' : C} {ids ids' : I} {out out' : O} {notes notes' : Notes} → store ≡ store' → clock ≡ clock' → ids ≡ ids' → out ≡ out' → notes ≡ notes' → moment t (at store clock ids out) notes ≡ moment t (at store' clock' ids' out') notes'
   same_moment {store = s} {store' = s'} {clock = c} {clock' = c'} {ids = i} {ids' = i'} {out = o} {out' = o'} {notes = n} {notes' = n'} a b d e f =
-      ap (λ (x : S). moment t (at x c i o n)) a ∙ ap (λ (x : C). moment t (at s' x i o n)) b ∙ ap (λ (x : I). moment t (at s' c' x o n)) d ∙ ap (λ (x : O). moment t (at s' c' i' x n)) e ∙ ap (λ (x : Notes). moment t (at s' c' i' o' x)) f
+      ap (λ (x : S). moment t (at x c i o) n) a ∙ ap (λ (x : C). moment t (at s' x i o) n) b ∙ ap (λ (x : I). moment t (at s' c' x o) n) d ∙ ap (λ (x : O). moment t (at s' c' i' x) n) e ∙ ap (λ (x : Notes). moment t (at s' c' i' o') x) f
 
 pub asked_run : (words : List (List ℕ)) (table : Parts) (tasks given : List Task) → given ≡ tasks → Ask words table tasks → (status status' : Status) → status ≡ status' → (p p' q q' : Point) → p' ≡ p → q ≡ q'
     → ((first : Task) (more : List Task) → given ≡ first ∷ more → Ended given status' p' q') → Runs words status p q

@@ -147,23 +147,23 @@ module _ (successor : Data → Data → Type 0) (Drawn : ℕ → Type 0) (table 
     -- where no version is told
     kind_told : (kind : Kind) (steps : List Step) (left : List Parts) → Took Fails kind [] steps left → ToldBy kind committed (after steps)
     kind_told kinds.Done steps left t = ap after t.0
-    kind_told kinds.Told steps left t = ap after t.0
-    kind_told (kinds.Fault place) steps left (inl t) = ap after t.1.0
-    kind_told (kinds.Fault place) steps left (inr t) =
+    kind_told kinds.Told steps left t = ap after t.1.0
+    kind_told (kinds.Fault place) steps left (none, inl t) = ap after t.1.0
+    kind_told (kinds.Fault place) steps left (none, inr t) =
         let f = t.1 in
         let stop = f.stopped.steps_are in
         ap after stop.2 ∙ failed_behind (number_in table) (the_draft t.0) (the_target t.0) t.0.bytes committed f.call stop.0 f.kind stop.1
-    kind_told (kinds.Unknown version) steps left t =
+    kind_told (kinds.Unknown version) steps left (none, t) =
         let f = t.2 in
         let stop = f.stopped.steps_are in
         let told = open_behind (number_in table) (the_draft t.0) (the_target t.0) t.0.bytes committed t.0.last (number_is t.0) f.call stop.0 f.kind stop.1 in
         subst (λ (v : ℕ). ToldBy (kinds.Unknown v) committed (after steps)) (as_suc t.0 ∙ sym t.1)
         (subst (λ (l : List Step). ToldBy (kinds.Unknown (suc t.0.last)) committed (after l)) (sym stop.2) told)
     kind_told (kinds.Lost version) steps left t =
-        let b = t.0 in
+        let b = t.1 in
         ap after b.steps_are ∙ lost_behind (number_in table) (the_draft b.publish) (the_target b.publish) b.publish.bytes committed
-    kind_told kinds.Memory steps left (inl t) = inl (ap after t.0)
-    kind_told kinds.Memory steps left (inr t) =
+    kind_told kinds.Memory steps left (none, inl t) = inl (ap after t.0)
+    kind_told kinds.Memory steps left (none, inr t) =
         let told = unmade_behind (number_in table) (the_draft t.0) (the_target t.0) t.0.bytes committed t.0.last (number_is t.0) t.1 in
         subst (λ (l : List Step). ToldBy kinds.Memory committed (after l)) (sym t.2.steps_are) told
 

@@ -30,8 +30,8 @@ returns-in-Ok g c =
     let given = c.args.given in
     let made : Task = record { word = w.word; table = w.table; work = Listing given } in
     let t = tells g.S.Store.past g.S.Store.faults g.S.Store.halted g.C.Clock.given g.I.Ids.given g.O.Sink.contents g.O.Sink.faults in
-    let p = moment t (at c.args.store.now c.args.clock.now c.args.ids.now c.args.out.now (noted c.args.log.now)) in
-    let q = moment t (at c.open_table.new.store c.now_ms.new.self c.args.ids.now c.list_on.new.out (noted c.args.log.now)) in
+    let p = moment t (at c.args.store.now c.args.clock.now c.args.ids.now c.args.out.now) (noted c.args.log.now) in
+    let q = moment t (at c.open_table.new.store c.now_ms.new.self c.args.ids.now c.list_on.new.out) (noted c.args.log.now) in
     let status = c.list_on.result in
     let opened = c.in-Ok.at in
     let tree = view opened.meta in
@@ -112,8 +112,8 @@ returns-in-Err g c =
     let given = c.args.given in
     let made : Task = record { word = w.word; table = w.table; work = Listing given } in
     let t = tells g.S.Store.past g.S.Store.faults g.S.Store.halted g.C.Clock.given g.I.Ids.given g.O.Sink.contents g.O.Sink.faults in
-    let p = moment t (at c.args.store.now c.args.clock.now c.args.ids.now c.args.out.now (noted c.args.log.now)) in
-    let q = moment t (at c.open_table.new.store c.now_ms.new.self c.args.ids.now c.args.out.now (noted c.args.log.now)) in
+    let p = moment t (at c.args.store.now c.args.clock.now c.args.ids.now c.args.out.now) (noted c.args.log.now) in
+    let q = moment t (at c.open_table.new.store c.now_ms.new.self c.args.ids.now c.args.out.now) (noted c.args.log.now) in
     let status = c.status_of_open.result in
     let error = c.in-Err.e in
     let e = c.in-Err.ensures in

@@ -30,8 +30,8 @@ returns-in_default g c =
     let w = c.args.task.now in
     let made : Task = record { word = w.word; table = w.table; work = Move c.args.goal.now } in
     let t = tells g.S.Store.past g.S.Store.faults g.S.Store.halted g.C.Clock.given g.I.Ids.given g.O.Sink.contents g.O.Sink.faults in
-    let p = moment t (at c.args.store.now c.args.clock.now c.args.ids.now c.args.out.now (noted c.args.log.now)) in
-    let q = moment t (at c.args.store.now c.now_ms-now.new.self c.args.ids.now c.args.out.now (noted c.args.log.now)) in
+    let p = moment t (at c.args.store.now c.args.clock.now c.args.ids.now c.args.out.now) (noted c.args.log.now) in
+    let q = moment t (at c.args.store.now c.now_ms-now.new.self c.args.ids.now c.args.out.now) (noted c.args.log.now) in
     let now = c.now_ms-now.result in
     let Drawn = Gives p.identifiers p.identifiers in
     let error : Option CommitErr = Some (Attempt (Read Memory)) in
@@ -68,8 +68,8 @@ returns-in-Ok-commit g c =
     let goals : r.goal ≡ c.args.goal.now = c.new-change.ensures.goal ∙ c.in-Ok.ensures in
     let made : Task = record { word = w.word; table = w.table; work = Move r.goal } in
     let t = tells g.S.Store.past g.S.Store.faults g.S.Store.halted g.C.Clock.given g.I.Ids.given g.O.Sink.contents g.O.Sink.faults in
-    let p = moment t (at c.args.store.now c.args.clock.now c.args.ids.now c.args.out.now (noted c.args.log.now)) in
-    let q = moment t (at c.commit.new.store c.now_ms-now.new.self c.commit.new.ids c.put_report.new.out (noted c.commit.new.log)) in
+    let p = moment t (at c.args.store.now c.args.clock.now c.args.ids.now c.args.out.now) (noted c.args.log.now) in
+    let q = moment t (at c.commit.new.store c.now_ms-now.new.self c.commit.new.ids c.put_report.new.out) (noted c.commit.new.log) in
     let Drawn = Gives p.identifiers q.identifiers in
     let done = c.in-Ok-commit.field-0 in
     let answer : Result Committed CommitErr = Ok done in
@@ -109,8 +109,8 @@ returns g c =
     let goals : r.goal ≡ c.args.goal.now = c.new-change.ensures.goal ∙ c.in-Ok.ensures in
     let made : Task = record { word = w.word; table = w.table; work = Move r.goal } in
     let t = tells g.S.Store.past g.S.Store.faults g.S.Store.halted g.C.Clock.given g.I.Ids.given g.O.Sink.contents g.O.Sink.faults in
-    let p = moment t (at c.args.store.now c.args.clock.now c.args.ids.now c.args.out.now (noted c.args.log.now)) in
-    let q = moment t (at c.commit.new.store c.now_ms-now.new.self c.commit.new.ids c.args.out.now (noted c.commit.new.log)) in
+    let p = moment t (at c.args.store.now c.args.clock.now c.args.ids.now c.args.out.now) (noted c.args.log.now) in
+    let q = moment t (at c.commit.new.store c.now_ms-now.new.self c.commit.new.ids c.args.out.now) (noted c.commit.new.log) in
     let Drawn = Gives p.identifiers q.identifiers in
     let error = c.in-Err.e in
     let answer : Result Committed CommitErr = Err error in
