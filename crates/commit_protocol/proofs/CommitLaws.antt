@@ -1,10 +1,9 @@
 -- Laws of an attempt: the change is asked, and what it built is published.
-use Rattle.std.proofs.Common.{◌≡◌, ◌⊎◌, inl, inr, ℕ, ◌+◌, ◌≤◌, List, [], ◌∷◌, ◌++◌, length, Option, Result, Ok, Err, codes, unwrap_or, option_and_then, refl, sym, ap, ◌∙◌, subst}
+use Rattle.std.proofs.Common.{◌≡◌, inl, inr, ℕ, ◌+◌, ◌≤◌, List, [], ◌++◌, length, Option, Result, Ok, Err, codes, unwrap_or, option_and_then, refl, sym, ap, ◌∙◌, subst}
 use Rattle.serde_json.specs.Data.{Data}
 use Rattle.serde_json.specs.Find.{as_str}
 use Rattle.serde_json.specs.View.{view}
 use Rattle.ice_store.specs.Places.{Parts}
-use Rattle.ice_store.specs.History.{Disk}
 use Rattle.ice_store.specs.Since.{Since}
 use Rattle.ice_store.specs.declared.history.Past.{Past}
 use Rattle.ice_store.specs.declared.history.Step.{Step}
@@ -19,13 +18,12 @@ use Rattle.commit_history.specs.Versions.{number_in}
 use Rattle.commit_history.proofs.Numbering.{numbering}
 use Rattle.commit_history.proofs.Running.{ran_then, ran_turned, begins}
 use Rattle.commit_publish.specs.Leaves.{PublishLeaves}
-use Rattle.commit_publish.specs.Stages.{IsNarrow, IsNameTaken, Creating, Aim, Stage, NoFile, IsLost, InState}
+use Rattle.commit_publish.specs.Stages.{IsNarrow, IsNameTaken, IsLost, InState}
 use Rattle.commit_publish.specs.Steps.{Exactly, Anything, StopsAt, publish_plan, lost_plan}
 use Rattle.commit_publish.specs.declared.steps.PublishCall.{PublishCall}
 use Rattle.commit_publish.specs.declared.steps.PublishCall.TheVariants as asked
 use Rattle.ice_store.specs.declared.store.StoreErr.{StoreErr}
 use Rattle.ice_store.specs.declared.store.StoreErr.TheVariants as causes
-use Rattle.commit_publish.specs.declared.steps.Route.{Route}
 use Rattle.commit_publish.specs.declared.publish.PublishErr.{PublishErr}
 use Rattle.commit_publish.specs.declared.publish.PublishErr.TheVariants as publishes
 use Rattle.commit_publish.proofs.CallLaws as calls

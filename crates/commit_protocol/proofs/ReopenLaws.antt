@@ -12,11 +12,11 @@ use Rattle.commit_history.proofs.Agreeing.{version_named, table_is}
 use Rattle.commit_history.proofs.Manners.{law}
 use Rattle.commit_history.proofs.Numbering.{numbering}
 use Rattle.table_metadata.specs.Spelling.{Spells}
-use Rattle.commit_versions.specs.Opening.{FileIs, version_limit}
+use Rattle.commit_versions.specs.Opening.{version_limit}
 use Rattle.commit_versions.specs.declared.types.OpenErr.{OpenErr}
 use Rattle.commit_versions.specs.declared.types.OpenErr.TheVariants.{NoTable}
 use Rattle.commit_protocol.specs.Metadata.{metadata_reading, metadata_local}
-use Rattle.commit_protocol.specs.Promises.{ReopensOpened, Reopened, Shows}
+use Rattle.commit_protocol.specs.Promises.{ReopensOpened, Shows}
 use Rattle.commit_protocol.specs.Verdicts.{IsLastFile, IsTable, OpenVerdict, IsOpeningTold, Shown, shown}
 use Rattle.commit_protocol.specs.declared.opening.At.{At}
 use Rattle.commit_protocol.proofs.UniqueLaws.{Answer, OpenCase, one_case, case_of, case_of_table}

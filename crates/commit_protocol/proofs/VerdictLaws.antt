@@ -8,7 +8,7 @@ use Rattle.ice_store.specs.History.{replay}
 use Rattle.ice_store.specs.declared.history.Held.{Held}
 use Rattle.ice_store.specs.declared.history.Past.{Past}
 use Rattle.ice_store.specs.declared.history.Step.{Step}
-use Rattle.ice_store.specs.declared.history.Step.TheVariants.{Append, Seal, Rename, Remove, SyncNames}
+use Rattle.ice_store.specs.declared.history.Step.TheVariants.{Append, Seal, SyncNames}
 use Rattle.ice_store.specs.declared.faults.What.{What}
 use Rattle.ice_store.specs.declared.faults.What.TheVariants.{Codec, FormatVersion, Transform, SchemaSize, BlockBytes, ItemCount, FileBytes, GroupBytes, NoManifestList, VersionNumber, Sequence}
 use Rattle.ice_store.specs.declared.faults.ReadErr.TheVariants.{Missing, Damaged, Unsupported, StoreFault, Memory}
@@ -18,7 +18,6 @@ use Rattle.commit_history.specs.Runs.{Ran}
 use Rattle.table_metadata.specs.Edits.{HasVersionLimit}
 use Rattle.commit_publish.specs.Stages.{IsLost, IsNameTaken, InState}
 use Rattle.commit_publish.specs.Steps.{Exactly, Anything, draft_plan, move_plan, lost_plan}
-use Rattle.commit_publish.specs.declared.steps.Route.{Route}
 use Rattle.commit_versions.specs.Opening.{OpenStage, FileIs, IsLong, IsBeyond, IsOpened, Listed, ReadErrLeaves, file_limit}
 use Rattle.commit_versions.specs.declared.types.OpenErr.{OpenErr}
 use Rattle.commit_versions.specs.declared.types.OpenErr.TheVariants.{NoTable, LocationDiffers, Read}

@@ -1,5 +1,5 @@
 -- What work on a table did, by the kind of its end.
-use Rattle.std.proofs.Common.{◌≡◌, inl, inr, ℕ, ◌+◌, Bool, List, [], ◌∷◌, ◌++◌, Option, Some, None, Result, Ok, Err, refl, sym, ap, ◌∙◌, subst, append-nil}
+use Rattle.std.proofs.Common.{◌≡◌, inl, inr, ℕ, ◌+◌, Bool, List, [], ◌∷◌, ◌++◌, Option, Result, Ok, Err, refl, sym, ap, ◌∙◌, subst, append-nil}
 use Rattle.serde_json.specs.Data.{Data}
 use Rattle.serde_json.specs.View.{view}
 use Rattle.ice_store.specs.Places.{Parts}
@@ -31,7 +31,7 @@ use Rattle.commit_publish.specs.declared.publish.PublishErr.{PublishErr}
 use Rattle.commit_publish.specs.declared.publish.PublishErr.TheVariants as publishes
 use Rattle.commit_versions.specs.Opening.{OpenMarks}
 use Rattle.commit_protocol.specs.Ends.{Publish, IsPublished, IsBeaten, IsStopped, IsFailed, TookBy, Works, IsThat, PublishedWorks, draft_of, target_of, number_of}
-use Rattle.commit_protocol.specs.Kinds.{End, end_of, kind_of, error_kind, commit_kind, is_renaming}
+use Rattle.commit_protocol.specs.Kinds.{End, end_of, kind_of, error_kind, commit_kind}
 use Rattle.commit_protocol.specs.Written.{IsOn, IsWritten, commit_error_by, next_tree, stop_error, version_at}
 use Rattle.commit_protocol.specs.declared.committing.Base.{Base}
 use Rattle.commit_protocol.specs.declared.committing.Written.{Written}
@@ -288,16 +288,22 @@ module _ (S T : Data → Data → Type 0) (Drawn : ℕ → Type 0) (table : Part
   took_turned Fails kinds.Done [] steps left t = t
   took_turned Fails kinds.Done (v ∷ versions) steps left t = (t.0, published_turned v steps t.1, t.2)
   took_turned Fails kinds.Told versions steps left t = t
-  took_turned Fails (kinds.Fault place) versions steps left t = (t.0, elim t.1 [
-    | inl look ↦ inl look
-    | inr publish ↦ inr (turned publish.0, failed_turned Fails _ publish.0 steps left publish.1)
-  ])
+  took_turned Fails (kinds.Fault place) versions steps left t = (
+    t.0,
+    elim t.1 [
+      | inl look ↦ inl look
+      | inr publish ↦ inr (turned publish.0, failed_turned Fails _ publish.0 steps left publish.1)
+    ],
+  )
   took_turned Fails (kinds.Unknown version) versions steps left t = (t.0, (turned t.1.0, t.1.1, failed_turned Fails _ t.1.0 steps left t.1.2))
   took_turned Fails (kinds.Lost version) versions steps left t = (t.0, beaten_turned version steps t.1, t.2)
-  took_turned Fails kinds.Memory versions steps left t = (t.0, elim t.1 [
-    | inl none ↦ inl none
-    | inr publish ↦ inr (turned publish.0, publish.1, stopped_turned causes.Memory publish.0 publish.1 steps left publish.2)
-  ])
+  took_turned Fails kinds.Memory versions steps left t = (
+    t.0,
+    elim t.1 [
+      | inl none ↦ inl none
+      | inr publish ↦ inr (turned publish.0, publish.1, stopped_turned causes.Memory publish.0 publish.1 steps left publish.2)
+    ],
+  )
 
   pub works_turned : (end : End) (mark : Option Failure) (had has : List Parts) (old new : Past) → Works S Drawn table now A end mark had has old new → Works T Drawn table now B end mark had has old new
   works_turned end mark had has old new w =

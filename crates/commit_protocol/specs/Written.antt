@@ -1,5 +1,5 @@
 -- A new metadata file as it is drawn up, and the errors of its publish.
-use Rattle.std.specs.Prelude.{◌≡◌, ◌⊎◌, ℕ, ◌+◌, ◌<◌, ◌≤◌, List, [], ◌∷◌, ◌++◌, length, Result, Ok, Err}
+use Rattle.std.specs.Prelude.{◌≡◌, ℕ, ◌+◌, ◌<◌, ◌≤◌, List, [], ◌∷◌, ◌++◌, length, Result}
 use Rattle.serde_json.specs.Data.{Data}
 use Rattle.serde_json.specs.View.{view}
 use Rattle.serde_json.specs.Written.{compact_text}
@@ -29,9 +29,8 @@ use Rattle.commit_protocol.specs.declared.committing.Written.{Written}
 use Rattle.commit_protocol.specs.declared.errors.AttemptErr.{AttemptErr}
 use Rattle.commit_protocol.specs.declared.errors.AttemptErr.TheVariants as attempts
 use Rattle.commit_protocol.specs.declared.errors.CommitErr.{CommitErr}
-use Rattle.commit_protocol.specs.declared.errors.CommitErr.TheVariants.{Open, Attempt, Contended, CommitUnknown}
+use Rattle.commit_protocol.specs.declared.errors.CommitErr.TheVariants.{Attempt, Contended, CommitUnknown}
 use Rattle.commit_protocol.specs.declared.errors.Committed.{Committed}
-use Rattle.commit_protocol.specs.declared.errors.Committed.TheVariants.{Same, Published}
 
 -- the place of the new metadata file whose name a drawn identifier gives
 abbrev pub draft_at : Parts → ℕ → Parts

@@ -2,6 +2,7 @@ mod ChainLaws
 mod StepLaws
 mod VerdictLaws
 mod EndLaws
+mod StatusLaws
 mod ListLaws
 mod WordLaws
 mod StopLaws

@@ -3,9 +3,7 @@ use Rattle.ice_store.specs.Given.{Gives}
 use Rattle.ice_store.specs.Others.{WhereTold}
 use Rattle.ice_store.specs.Places.{Parts, place_in}
 use Rattle.ice_store.specs.Since.{Since}
-use Rattle.ice_store.specs.History.{Disk}
 use Rattle.ice_store.specs.declared.faults.ReadErr.TheVariants.{StoreFault, Memory}
-use Rattle.ice_store.specs.declared.history.Past.{Past}
 use Rattle.ice_store.proofs.SinceLaws.{since_start, since_then, since_turned}
 use Rattle.serde_json.specs.Data.{Data}
 use Rattle.serde_json.specs.View.{view}
@@ -13,7 +11,6 @@ use Rattle.table_metadata.specs.Edits.{HasVersionLimit}
 use Rattle.metadata_view.specs.View.{location_of}
 use Rattle.commit_history.specs.Runs.{Ran}
 use Rattle.commit_history.specs.Versions.{number_in}
-use Rattle.commit_publish.specs.Kinds as kinds
 use Rattle.commit_publish.specs.Kinds.{Failing}
 use Rattle.commit_publish.specs.Stages.{InState}
 use Rattle.commit_publish.specs.Steps.{Exactly}
@@ -306,9 +303,9 @@ returns-in-Ok-Next-clause-works g c =
     since_then p0 p1 p2 (Ran rules (Exactly []) K) (PublishedWorks t Drawn c.args.now base built r mark had has) (Works meanings.successor Drawn t c.args.now (IsThat at) (end_of r) mark had has)
     c.in-Ok-Next.ensures.told by_log
     (λ old mid new run b. works.works_behind meanings.successor Drawn t c.args.now (IsThat at) rules K (end_of r) mark had has old mid new run
-        (works.works_turned Only meanings.successor Drawn t c.args.now (IsThat at) (IsThat at) (λ place last text tree that. that)
-        (λ place last text tree next that is. subst (λ (d : Data). meanings.successor d next) (sym that.tree_is) (subst (λ (d : Data). meanings.successor (view at.meta) d) (sym is) made.0))
-        (end_of r) mark had has mid new (b at on limit)))
+    (works.works_turned Only meanings.successor Drawn t c.args.now (IsThat at) (IsThat at) (λ place last text tree that. that)
+    (λ place last text tree next that is. subst (λ (d : Data). meanings.successor d next) (sym that.tree_is) (subst (λ (d : Data). meanings.successor (view at.meta) d) (sym is) made.0))
+    (end_of r) mark had has mid new (b at on limit)))
 
 pub returns-in-Ok-Next-clause-drawn : goal.returns-in-Ok-Next-clause-drawn
 returns-in-Ok-Next-clause-drawn g c =

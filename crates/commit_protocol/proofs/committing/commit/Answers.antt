@@ -1,4 +1,4 @@
-use Rattle.std.proofs.Common.{◌≡◌, inl, inr, [], Some, Err, refl, sym, subst, append-nil}
+use Rattle.std.proofs.Common.{◌≡◌, inl, inr, Some, Err, refl, sym, subst, append-nil}
 use Rattle.ice_store.specs.Given.{Gives}
 use Rattle.ice_store.specs.Since.{Since}
 use Rattle.ice_store.proofs.SinceLaws.{since_then, since_turned, since_where}
@@ -152,9 +152,9 @@ returns-in-Ok-clause-works g c =
     let has = c.attempt_on.new.log.left.items in
     since_then p0 p1 p2 (IsAt t allows at) (Works meanings.successor Drawn t c.args.now (IsThat at) (end_of r) mark had has) (CommitWorks t allows meanings Drawn c.args.now r mark had has) c.in-Ok.ensures.told c.attempt_on.ensures.works
     (λ old mid new opened w.
-        works.works_behind meanings.successor Drawn t c.args.now (WasOpened t allows old) rules Anything (end_of r) mark had has old mid new (opened_idle t allows at.place at.text old mid opened.opened)
-        (works.works_turned meanings.successor meanings.successor Drawn t c.args.now (IsThat at) (WasOpened t allows old) (λ place last text tree that. record { at = at; mid = mid; opened = opened; that = that })
-        (λ place last text tree next that is. is) (end_of r) mark had has mid new w))
+    works.works_behind meanings.successor Drawn t c.args.now (WasOpened t allows old) rules Anything (end_of r) mark had has old mid new (opened_idle t allows at.place at.text old mid opened.opened)
+    (works.works_turned meanings.successor meanings.successor Drawn t c.args.now (IsThat at) (WasOpened t allows old) (λ place last text tree that. record { at = at; mid = mid; opened = opened; that = that })
+    (λ place last text tree next that is. is) (end_of r) mark had has mid new w))
 
 pub returns-in-Err-clause-halted : goal.returns-in-Err-clause-halted
 returns-in-Err-clause-halted g c =

@@ -1,7 +1,6 @@
 use Rattle.std.proofs.Common.{◌≡◌, ◌<◌, ◌≤◌, ℕ, length, List, refl, ap, ◌∙◌, subst, arith}
 use Rattle.ice_store.specs.Places.{place_in}
 use Rattle.serde_json.specs.View.{view}
-use Rattle.serde_json.specs.Written.{compact_text}
 use Rattle.metadata_view.specs.View.{location_of}
 use Rattle.commit_versions.specs.Opening.{file_limit}
 use Rattle.commit_protocol.specs.Written.{next_tree}

@@ -1,8 +1,7 @@
-use Rattle.std.proofs.Common.{◌≡◌, inr, ◌+◌, ◌++◌, ℕ, List, [], Some, Ok, Err, refl, sym, ap, ◌∙◌, subst, append-nil}
+use Rattle.std.proofs.Common.{◌≡◌, inr, ◌+◌, ℕ, List, [], Some, Ok, Err, refl, sym, ap, ◌∙◌, subst, append-nil}
 use Rattle.ice_store.specs.Places.{Parts}
 use Rattle.ice_store.specs.Given.{Gives}
 use Rattle.ice_store.specs.Since.{Since}
-use Rattle.ice_store.specs.declared.history.Past.{Past}
 use Rattle.ice_store.proofs.SinceLaws.{since_start, since_turned}
 use Rattle.serde_json.specs.View.{view}
 use Rattle.commit_history.specs.Runs.{Ran}
