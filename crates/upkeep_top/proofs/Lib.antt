@@ -4,6 +4,8 @@ mod VerdictLaws
 mod EndLaws
 mod StatusLaws
 mod ListLaws
+mod KindLaws
+mod StretchLaws
 mod WordLaws
 mod StopLaws
 mod VersionLaws
