@@ -6,6 +6,8 @@ mod StatusLaws
 mod KindLaws
 mod StretchLaws
 mod ListLaws
+mod KindLaws
+mod StretchLaws
 mod WordLaws
 mod StopLaws
 mod VersionLaws
