@@ -6,8 +6,6 @@ mod StatusLaws
 mod KindLaws
 mod StretchLaws
 mod ListLaws
-mod KindLaws
-mod StretchLaws
 mod WordLaws
 mod StopLaws
 mod VersionLaws
