@@ -38,7 +38,7 @@ use Rattle.upkeep_top.specs.declared.task.Task.{Task}
 use Rattle.upkeep_top.proofs.KindLaws.{TellsKind, done_kind, leads_kept, refusal_kind, tells_kind}
 use Rattle.upkeep_top.proofs.LeftLaws.{one_publish, took_left}
 use Rattle.upkeep_top.proofs.StopLaws.{DidOf, asked_of, tables_are, told_any}
-use Rattle.upkeep_top.proofs.VersionLaws.{IsTold, Took, done_told, renamed_append, took_told}
+use Rattle.upkeep_top.proofs.VersionLaws.{IsTold, Took, done_told, renamed_append, the_draft, the_target, took_told}
 
 -- an error tells no versions
 pub told_of : (error : Option CommitErr) (versions : List ℕ) → ((e : CommitErr) → error ≡ Some e → versions ≡ []) → IsTold (error_kind error) versions
@@ -91,7 +91,7 @@ module _ (number : Parts → ℕ) where
 abbrev pub WorkOf : (t : Task) (status : Status) (p q : Point) → Ends t status p q → Past → Past → Type 0
 WorkOf t status p q e old new = Works (meanings_of t e.now).change.successor (Gives p.identifiers q.identifiers) t.table e.now (IsTable t.table (replay old).files) e.end q.halted p.left q.left old new
 
-works_of : (t : Task) (status : Status) (p q : Point) (e : Ends t status p q) → Since p.past q.past (WorkOf t status p q e)
+pub works_of : (t : Task) (status : Status) (p q : Point) (e : Ends t status p q) → Since p.past q.past (WorkOf t status p q e)
 works_of t status p q e = since_turned p.past q.past (DidOf t status p q e) (WorkOf t status p q e) e.did (λ old new d. d.works)
 
 -- the steps of work that is done leave no place
@@ -107,7 +107,7 @@ module _ (t : Task) (now : ℕ) (Drawn : ℕ → Type 0) (files : List Held) (Fa
       let b = w.1 in
       let one : length (v ∷ versions) ≡ suc 0 = ap (λ (l : List ℕ). length (v ∷ l)) w.0 in
       let e : length (v ∷ versions) + n ≡ suc n = omega (arith, one) in
-      ap (λ (k : ℕ). made_by k [] (steps ++ rest)) e ∙ ap (λ (l : List Step). made_by (suc n) [] (l ++ rest)) b.steps_are ∙ one_publish _ _ b.publish.bytes n rest
+      ap (λ (k : ℕ). made_by k [] (steps ++ rest)) e ∙ ap (λ (l : List Step). made_by (suc n) [] (l ++ rest)) b.steps_are ∙ one_publish (the_draft (meanings_of t now).change.successor Drawn t.table now files b.publish) (the_target (meanings_of t now).change.successor Drawn t.table now files b.publish) b.publish.bytes n rest
 
 done_stretch : (t : Task) (p q : Point) (e : IsDone t p q) → (old new : Past) → WorkOf t Done p q e old new → Stretch (number_in t.table) p.committed q.committed old new
 done_stretch t p q e old new w =

@@ -91,6 +91,12 @@ all_done tasks first more is i past_end within o q led =
 
 -- Moments whose values agree.
 
+abbrev pub notes_of : List ℕ → List Parts → Notes
+notes_of committed left = record { committed = committed; left = left }
+
+pub same_notes : {committed committed' : List ℕ} {left left' : List Parts} → committed ≡ committed' → left ≡ left' → notes_of committed left ≡ notes_of committed' left'
+same_notes {committed = c} {committed' = c'} {left = l} {left' = l'} a b = ap (λ (x : List ℕ). notes_of x l) a ∙ ap (λ (x : List Parts). notes_of c' x) b
+
 module _ {S C I O : Type 0} (t : Tells S C I O) where
   pub same_moment : {store store' : S} {clock clock' : C} {ids ids' : I} {out out' : O} {notes notes' : Notes} → store ≡ store' → clock ≡ clock' → ids ≡ ids' → out ≡ out' → notes ≡ notes' → moment t (at store clock ids out) notes ≡ moment t (at store' clock' ids' out') notes'
   same_moment {store = s} {store' = s'} {clock = c} {clock' = c'} {ids = i} {ids' = i'} {out = o} {out' = o'} {notes = n} {notes' = n'} a b d e f =

@@ -110,7 +110,7 @@ module _ (number : Parts → ℕ) (draft target : Parts) (bytes : List ℕ) (ver
     unmade_behind asked.Rename = inl (ap all_settled once)
     unmade_behind asked.SyncRename = inr (suc version, opened)
     unmade_behind asked.Remove = inl (ap all_settled once)
-    unmade_behind asked.SyncRemoval = inl (ap all_settled twice)
+    unmade_behind asked.SyncRemoval = inl (ap all_settled once)
 
 -- Steps of work.
 
