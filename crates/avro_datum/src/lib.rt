@@ -6,6 +6,7 @@
 mod calls;
 mod datum;
 mod decoding;
+mod empty;
 mod encoding;
 mod fault;
 mod skipping;

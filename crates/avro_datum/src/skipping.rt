@@ -10,6 +10,7 @@ ghost use Rattle.avro_datum.specs.Spelling.{most_items};
 ghost use Rattle.avro_datum.specs.Reading.{Ends, told, entry_at, read, read_all};
 ghost use Rattle.avro_pieces.specs.Pieces.{causes};
 
+use crate::empty::takes_none;
 use avro_pieces::{
     DatumCause, SkipErr, blob, block_head, int, is_sized, number, part, position, short_blob,
     short_position, text_of, truth,
@@ -368,6 +369,10 @@ fn past_some(
     requires { at ≤ length bytes.now }
     ensures { Ends bytes.now (told result fault.new) (items_at (read (form_of item.now)) count (drop at bytes.now)) }
 {
+    // Any number of items of no bytes may be claimed by a few bytes.
+    if takes_none(item) {
+        return Some(at);
+    }
     let mut end = at;
     for _ in 0..count {
         end = past(item, bytes, end, fault)?;

@@ -306,9 +306,45 @@ fn faults_of_values(rt: HostRuntime) -> Result<(), Fail> {
     Ok(())
 }
 
+/// A record of values that are spelled by no bytes, one of them a record, and of a last field.
+fn nothing_and(alloc: Global, last: Schema) -> Result<Schema, AllocError> {
+    let mut inner = Items::new(alloc);
+    inner.push(Schema::Null)?;
+    let mut schemas = Items::new(alloc);
+    schemas.push(record_of(alloc, inner)?)?;
+    schemas.push(fixed(alloc, 0)?)?;
+    schemas.push(last)?;
+    record_of(alloc, schemas)
+}
+
+/// An array of 10,000 arrays of 16,777,216 items each that are spelled by no bytes.
+fn many_arrays(alloc: Global) -> Result<Vec<u8>, AllocError> {
+    let mut of = Vec::new(alloc);
+    of.extend_from_slice(b"\xa0\x9c\x01")?;
+    for _ in 0..10000u32 {
+        of.extend_from_slice(b"\x80\x80\x80\x10\x00")?;
+    }
+    of.push(0)?;
+    Ok(of)
+}
+
 #[test]
-fn items_at_the_limit(rt: HostRuntime) -> Result<(), Fail> {
-    let nulls = array_of(rt.alloc(), Schema::Null)?;
-    assert_eq!(rt; skip(&nulls, b"\x80\x80\x80\x10\x00", 0), Ok(5));
+fn items_of_no_bytes_are_passed_at_once(rt: HostRuntime) -> Result<(), Fail> {
+    let alloc = rt.alloc();
+    let nulls = array_of(alloc, Schema::Null)?;
+    let nothings = array_of(alloc, nothing_and(alloc, Schema::Null)?)?;
+    let arrays = array_of(alloc, array_of(alloc, nothing_and(alloc, Schema::Null)?)?)?;
+    let truths = array_of(alloc, nothing_and(alloc, Schema::Bool)?)?;
+    let many = many_arrays(alloc)?;
+    let table: [(&str, &Schema, &[u8], usize); 5] = [
+        ("nulls", &nulls, b"\x80\x80\x80\x10\x00", 5),
+        ("nulls_of_a_size", &nulls, b"\xff\xff\xff\x0f\x00\x00", 6),
+        ("records", &nothings, b"\x80\x80\x80\x10\x00", 5),
+        ("arrays_of_records", &arrays, many.as_slice(), 50004),
+        ("records_with_a_boolean", &truths, b"\x04\x01\x00\x00", 4),
+    ];
+    for (row, schema, of, end) in table {
+        assert_eq!(rt; skip(schema, of, 0), Ok(end), "{row}");
+    }
     Ok(())
 }
