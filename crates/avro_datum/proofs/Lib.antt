@@ -1,5 +1,5 @@
 pub mod Schemas
-pub mod Empty
+pub mod NoBytes
 pub mod Puts
 pub mod Carrying
 pub mod Found

@@ -6,9 +6,9 @@
 mod calls;
 mod datum;
 mod decoding;
-mod empty;
 mod encoding;
 mod fault;
+mod no_bytes;
 mod skipping;
 
 pub use avro_pieces::{DatumCause, SkipErr};

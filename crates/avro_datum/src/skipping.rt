@@ -10,7 +10,7 @@ ghost use Rattle.avro_datum.specs.Spelling.{most_items};
 ghost use Rattle.avro_datum.specs.Reading.{Ends, told, entry_at, read, read_all};
 ghost use Rattle.avro_pieces.specs.Pieces.{causes};
 
-use crate::empty::takes_none;
+use crate::no_bytes::takes_none;
 use avro_pieces::{
     DatumCause, SkipErr, blob, block_head, int, is_sized, number, part, position, short_blob,
     short_position, text_of, truth,

@@ -7,7 +7,7 @@ use Rattle.avro_container.proofs.Ends.{items_on, items_over, items_end_in, list_
 use Rattle.avro_pieces.specs.declared.fault.DatumCause.TheVariants.{Short, BadSize}
 use Rattle.avro_datum.specs.Reading.{entry_at, read}
 use Rattle.avro_pieces.specs.Pieces.{causes}
-use Rattle.avro_datum.proofs.Empty.{ends_there, items_of_none}
+use Rattle.avro_datum.proofs.NoBytes.{ends_there, items_of_none}
 use Rattle.avro_datum.proofs.skipping.+skip.Goals as goal
 
 pub past_some-returns-in_err-end : goal.past_some-returns-in_err-end

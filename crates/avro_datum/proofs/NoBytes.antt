@@ -1,15 +1,17 @@
 -- Values that are spelled by no bytes are read in each place, and reading ends there.
-use Rattle.std.proofs.Common.{◌≡◌, ℕ, zero, suc, ◌+◌, List, [], ◌∷◌, drop, Ok, Err, true, false, refl, sym, ap, ◌∙◌}
+use Rattle.std.proofs.Common.{◌≡◌, ℕ, zero, suc, ◌+◌, ◌<◌, ◌≤◌, List, [], ◌∷◌, length, drop, get_or, add-one, drop-cons, Ok, Err, true, false, refl, sym, ap, ◌∙◌, arith, lt-ltb}
+use Rattle.std.proofs.lemmas.Bool.{le-ltb}
+use Rattle.std.proofs.lemmas.List.{drop_all}
 use Rattle.std.specs.Prelude.{is_ok}
 use Rattle.avro_schema.specs.Form.{Form, null, boolean, int, long, float4, float8, bytes as blob, string, fixed, choice, array, pairs, fields, union, Forms, no_forms, form, form_of}
 use Rattle.avro_schema.specs.declared.schema.Field.{Field}
 use Rattle.avro_container.specs.LongReading.{long_at, unsigned_at, groups_at}
 use Rattle.avro_container.specs.Reading.{Causes, Read, ◌>>=◌, number_at, length_at, bytes_at, blob_at, string_at, head_at, items_at, blocks_at, ahead, end_of, with_front}
 use Rattle.avro_container.proofs.Ends.{end-ahead}
-use Rattle.avro_pieces.specs.Pieces.{int_at, position_at, bool_at}
-use Rattle.avro_datum.specs.declared.datum.Datum.TheVariants.{Fields}
+use Rattle.avro_pieces.specs.Pieces.{causes, int_at, position_at, bool_at}
+use Rattle.avro_datum.specs.declared.datum.Datum.TheVariants.{Fix, Fields}
 use Rattle.avro_datum.specs.Reading.{read, read_all}
-use Rattle.avro_datum.specs.Empty.{takes_none, all_take_none}
+use Rattle.avro_datum.specs.NoBytes.{takes_none, all_take_none}
 use Rattle.avro_datum.proofs.Schemas.{forms, fields_next}
 
 module _ {C A : Type 0} where
@@ -45,8 +47,11 @@ module _ {C A : Type 0} where
 
 no_part : {C : Type 0} (c : Causes C) (bytes : List ℕ) → end_of (bytes_at c 0 bytes) ≡ Ok bytes
 unfolding bytes_at
-no_part c [] = refl
-no_part c (b ∷ bs) = refl
+no_part c bytes = rw (le-ltb (length bytes) 0 (omega arith)) refl
+
+a_part : {C : Type 0} (c : Causes C) (n : ℕ) → bytes_at c (suc n) [] ≡ Err (c.short, 0)
+unfolding bytes_at
+a_part c n = rw (lt-ltb 0 (suc n) (omega arith)) refl
 
 mutual
   unfolding read bool_at int_at position_at number_at length_at bytes_at blob_at string_at head_at blocks_at long_at unsigned_at groups_at
@@ -60,9 +65,8 @@ mutual
   ends_there float8 bytes e = absurd cc
   ends_there blob bytes e = absurd cc
   ends_there string bytes e = absurd cc
-  ends_there (fixed zero) [] e = refl
-  ends_there (fixed zero) (b ∷ bs) e = refl
-  ends_there (fixed (suc n)) bytes e = absurd cc
+  ends_there (fixed zero) bytes e = end_kept Fix (bytes_at causes 0 bytes) ∙ no_part causes bytes
+  ends_there (fixed (suc n)) bytes e = absurd (let some = a_part causes n in cc)
   ends_there (choice n) bytes e = absurd cc
   ends_there (array f) bytes e = absurd cc
   ends_there (pairs f) bytes e = absurd cc
@@ -86,3 +90,10 @@ fields_take_none fs i f is none =
 pub fields_take_some : (fs : List Field) (i : ℕ) (f : Field) → drop i fs ≡ f ∷ drop (i + 1) fs → takes_none (form_of f.schema) ≡ false
     → all_take_none (forms (drop i fs)) ≡ false
 fields_take_some fs i f is some = ap is_ok (fields_next fs i f [] is) ∙ not_ahead (read (form_of f.schema) []) (read_all (forms (drop (i + 1) fs))) some
+
+pub no_fields : (fs : List Field) (i : ℕ) → length fs ≤ i → all_take_none (forms (drop i fs)) ≡ true
+unfolding read
+no_fields fs i h = ap (λ gs. all_take_none (forms gs)) (drop_all i fs h)
+
+pub item_at : {A : Type 0} (xs : List A) (i : ℕ) (x : A) → i < length xs → x ≡ get_or xs i x → drop i xs ≡ x ∷ drop (i + 1) xs
+item_at xs i x h e = (rw add-one (drop-cons xs i x h)) ∙ ap (λ y. y ∷ drop (i + 1) xs) (sym e)
