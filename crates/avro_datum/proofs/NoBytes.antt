@@ -6,7 +6,7 @@ use Rattle.std.specs.Prelude.{is_ok}
 use Rattle.avro_schema.specs.Form.{Form, null, boolean, int, long, float4, float8, bytes as blob, string, fixed, choice, array, pairs, fields, union, Forms, no_forms, form, form_of}
 use Rattle.avro_schema.specs.declared.schema.Field.{Field}
 use Rattle.avro_container.specs.LongReading.{long_at, unsigned_at, groups_at}
-use Rattle.avro_container.specs.Reading.{Causes, Read, ◌>>=◌, number_at, length_at, bytes_at, blob_at, string_at, head_at, items_at, blocks_at, ahead, end_of, with_front}
+use Rattle.avro_container.specs.Reading.{Causes, Read, ◌>>=◌, number_at, length_at, bytes_at, blob_at, string_at, head_at, items_at, blocks_at, ahead, end_of}
 use Rattle.avro_container.proofs.Ends.{end-ahead}
 use Rattle.avro_pieces.specs.Pieces.{causes, int_at, position_at, bool_at}
 use Rattle.avro_datum.specs.declared.datum.Datum.TheVariants.{Fix, Fields}

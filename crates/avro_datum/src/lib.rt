@@ -8,6 +8,7 @@ mod datum;
 mod decoding;
 mod encoding;
 mod fault;
+mod limits;
 mod no_bytes;
 mod skipping;
 
