@@ -36,11 +36,11 @@ without_only place = ap (λ (b : Bool). if not b then place ∷ [] else []) (sam
 pub rose_on : (a b c : ℕ) → a ≤ b → Rose b c → Rose a c
 rose_on a b c le rose = omega (arith, le, rose)
 
-exact : (Risen : Type 0) (mark : Option Failure) (count : ℕ) (steps : List Step) (left : List Parts) → left ≡ made_by count [] steps → IsLeft Risen mark count [] steps left
+pub exact : (Risen : Type 0) (mark : Option Failure) (count : ℕ) (steps : List Step) (left : List Parts) → left ≡ made_by count [] steps → IsLeft Risen mark count [] steps left
 exact Risen mark count steps left is = record { more = []; is = is ∙ sym (append-nil (made_by count [] steps)); cause = inl refl }
 
 module _ (draft target : Parts) (bytes : List ℕ) (Risen : Type 0) (mark : Option Failure) where
-  abbrev LeftFailed : PublishCall → List Step → Type 0
+  abbrev pub LeftFailed : PublishCall → List Step → Type 0
   LeftFailed call taken = IsLeft Risen mark 0 [] (steps_before draft target bytes call ++ taken) (left_at draft target call Failed)
 
   -- the places are those that the steps made
@@ -52,7 +52,7 @@ module _ (draft target : Parts) (bytes : List ℕ) (Risen : Type 0) (mark : Opti
 
   module _ (risen : Risen) (past : Past) where
     -- by the call that failed, and what it took
-    failed_left : (call : PublishCall) (taken : List Step) → mark ≡ Some (failure_of (Take (step_of draft target bytes call)) past) → IsTakenOf (step_of draft target bytes call) taken → LeftFailed call taken
+    pub failed_left : (call : PublishCall) (taken : List Step) → mark ≡ Some (failure_of (Take (step_of draft target bytes call)) past) → IsTakenOf (step_of draft target bytes call) taken → LeftFailed call taken
     failed_left asked.Create taken is (inl e) = alike asked.Create taken [] e (record { more = draft ∷ []; is = refl; cause = inr (risen, (failure_of (Take (Create draft)) past, is, refl)) })
     failed_left asked.Create taken is (inr e) = alike asked.Create taken (Create draft ∷ []) e (made asked.Create (Create draft ∷ []) refl)
     failed_left asked.Append taken is (inl e) = alike asked.Append taken [] e (made asked.Append [] refl)
@@ -72,7 +72,7 @@ module _ (draft target : Parts) (bytes : List ℕ) (Risen : Type 0) (mark : Opti
     failed_left asked.SyncRemoval taken is (inr e) = alike asked.SyncRemoval taken (SyncNames ∷ []) e (made asked.SyncRemoval (SyncNames ∷ []) (sym (without_only draft)))
 
   -- where memory lacked
-  unmade_at : (call : PublishCall) → left_at draft target call Memory ≡ made_by 0 [] (steps_before draft target bytes call)
+  pub unmade_at : (call : PublishCall) → left_at draft target call Memory ≡ made_by 0 [] (steps_before draft target bytes call)
   unmade_at asked.Create = refl
   unmade_at asked.Append = refl
   unmade_at asked.Seal = refl

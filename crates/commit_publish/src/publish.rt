@@ -6,7 +6,7 @@ ghost use Rattle.commit_history.specs.Readings.{rules_of};
 ghost use Rattle.commit_history.specs.Mannered.{IsMannered};
 ghost use Rattle.commit_history.specs.Versions.{number_in};
 ghost use Rattle.commit_publish.specs.Leaves.{PublishLeaves};
-ghost use Rattle.commit_publish.specs.Logs.{PublishCounts, PublishMarks, PublishNotes, published_by, left_at, left_by};
+ghost use Rattle.commit_publish.specs.Logs.{DropsTaken, PublishCounts, PublishMarks, PublishNotes, published_by, left_at, left_by};
 ghost use Rattle.commit_publish.specs.Stages.{IsNarrow, Creating, Aim, Stage, NoFile, InState};
 
 use crate::steps::{PublishCall, Route, StepErr, drop_draft, fill_draft, make_draft, move_draft};
@@ -44,6 +44,7 @@ fn publish_steps<R: TableReading, M: Manners, S: Store<M>>(
     requires start { WhereTold (S.past store.old) (InState (Stage (number_in route.now.table) route.now Creating NoFile)) }
     requires narrow { IsNarrow (R.content route.now.table) bytes.now }
     ensures told { Since (S.past store.old) (S.past store.new) (PublishLeaves (rules_of R.content route.now.table (M.allows (S.manners store.old))) route.now bytes.now result) }
+    ensures taken { DropsTaken route.now result (S.past store.new) }
     ensures manners { S.manners store.new ≡ S.manners store.old }
     ensures cause { PublishCounts result (S.faults store.old) (S.faults store.new) }
     ensures later { S.faults store.old ≤ S.faults store.new }
@@ -112,6 +113,7 @@ pub fn publish<R: TableReading, M: Manners, S: Store<M>>(
     requires start { WhereTold (S.past store.old) (InState (Stage (number_in route.now.table) route.now Creating NoFile)) }
     requires narrow { IsNarrow (R.content route.now.table) bytes.now }
     ensures told { Since (S.past store.old) (S.past store.new) (PublishLeaves (rules_of R.content route.now.table (M.allows (S.manners store.old))) route.now bytes.now result) }
+    ensures taken { DropsTaken route.now result (S.past store.new) }
     ensures manners { S.manners store.new ≡ S.manners store.old }
     ensures cause { PublishCounts result (S.faults store.old) (S.faults store.new) }
     ensures later { S.faults store.old ≤ S.faults store.new }

@@ -1,4 +1,5 @@
 pub mod AimLaws
 pub mod AimTexts
 pub mod ListingLaws
+pub mod ProcedureLaws
 pub mod RefLaws

@@ -1,42 +1,48 @@
--- What a statement did, by its end.
-use Rattle.std.proofs.Common.{◌≡◌, ◌⊎◌, inl, inr, ℕ, ℤ, ◌+◌, ◌<◌, List, [], ◌∷◌, Option, Some, None, Ok, Err, refl, sym, ap, ◌∙◌, subst, arith}
+-- What a statement that commits did, by its end.
+use Rattle.std.proofs.Common.{◌≡◌, inl, inr, ℕ, ℤ, List, [], Option, Some, None, Result, Ok, Err, refl, sym, ap, ◌∙◌, subst}
 use Rattle.serde_json.specs.Data.{Data}
 use Rattle.serde_json.specs.View.{view}
 use Rattle.ice_store.specs.Others.{WhereTold}
 use Rattle.ice_store.specs.Places.{Parts}
 use Rattle.ice_store.specs.Since.{Since}
-use Rattle.ice_store.proofs.SinceLaws.{since_with}
-use Rattle.ice_store.specs.History.{replay, later}
-use Rattle.ice_store.proofs.OthersLaws.{later-nil}
+use Rattle.ice_store.proofs.SinceLaws.{since_turned, since_with}
+use Rattle.ice_store.specs.History.{replay}
+use Rattle.ice_store.specs.declared.history.Failure.{Failure}
+use Rattle.ice_store.specs.declared.history.Held.{Held}
 use Rattle.ice_store.specs.declared.history.Past.{Past}
-use Rattle.ice_store.specs.declared.history.Step.{Step}
 use Rattle.ice_store.specs.declared.faults.ReadErr.TheVariants.{Missing, Damaged, Unsupported, StoreFault, Memory}
-use Rattle.commit_history.specs.Versions.{number_in}
-use Rattle.commit_history.specs.Runs.{Ran, ours}
-use Rattle.commit_publish.specs.Stages.{Anything, Exactly, Partly, Reaching}
-use Rattle.commit_publish.specs.declared.publish.PublishErr.TheVariants as publishes
-use Rattle.commit_protocol.specs.Attempts.{Drafted, PublishedBy, Attempted, CommitLeaves}
+use Rattle.table_metadata.specs.Edits.{HasVersionLimit}
+use Rattle.commit_publish.specs.Steps.{Anything}
+use Rattle.commit_versions.specs.declared.types.OpenErr.TheVariants as opens
+use Rattle.commit_protocol.specs.Attempts.{CommitLeaves}
+use Rattle.commit_protocol.specs.Ends.{CommitWorks, IsPublishFault, TellsFault, WasOpened, Works}
+use Rattle.commit_protocol.specs.Kinds.{commit_kind, end_of, kind_of}
 use Rattle.commit_protocol.specs.Meanings.{Meanings}
-use Rattle.commit_protocol.specs.Metadata.{IsAt, metadata_reading, metadata_rules}
-use Rattle.commit_protocol.specs.Verdicts.{IsNobody, IsTable, CommitVerdict, IsIdle}
-use Rattle.commit_protocol.specs.declared.opening.At.{At}
+use Rattle.commit_protocol.specs.Metadata.{metadata_reading, metadata_rules}
+use Rattle.commit_protocol.specs.Promises.{Succeeds}
+use Rattle.commit_protocol.specs.Verdicts.{IsNobody, IsTable, CommitVerdict, EndVerdict, ErrorVerdict, IsCaused}
 use Rattle.commit_protocol.specs.declared.errors.AttemptErr.TheVariants as attempts
+use Rattle.commit_protocol.specs.declared.errors.CommitErr.{CommitErr}
 use Rattle.commit_protocol.specs.declared.errors.CommitErr.TheVariants.{Open, Attempt, Contended, CommitUnknown}
+use Rattle.commit_protocol.specs.declared.errors.Committed.{Committed}
 use Rattle.commit_protocol.specs.declared.errors.Committed.TheVariants.{Same, Published}
-use Rattle.commit_protocol.proofs.PromiseLaws.{succeeds}
+use Rattle.commit_protocol.specs.declared.errors.Refusal.{Refusal}
+use Rattle.commit_protocol.proofs.QuietLaws.{unmoved}
 use Rattle.commit_protocol.proofs.StepLaws.{commit_steps}
 use Rattle.commit_protocol.proofs.VerdictLaws.{opening_answered}
+use Rattle.commit_protocol.proofs.WorkLaws.{works_turned}
 use Rattle.run_answers.specs.declared.status.Status.{Status}
 use Rattle.run_refs.specs.Meanings.{moves_of}
-use Rattle.run_refs.specs.Moves.{Moves, HasSeen}
+use Rattle.run_refs.specs.Moves.{HasSeen}
+use Rattle.run_refs.specs.Procedures.{Unasked, move_procedure}
+use Rattle.run_refs.specs.Reports.{move_report}
 use Rattle.run_refs.specs.declared.goal.Goal.{Goal}
-use Rattle.upkeep_top.specs.Promises.{Publishes, VersionsBy, HasSteps, HasSucceeded, Took, DoneSteps, versions_of}
-use Rattle.upkeep_top.specs.Reports.{move_report}
-use Rattle.upkeep_top.specs.Statements.{Nobody, Did, Reports, ReportedBy, RestsBy}
-use Rattle.upkeep_top.specs.Verdicts.{End, Unasked}
+use Rattle.upkeep_top.specs.Promises.{AllSucceed}
+use Rattle.upkeep_top.specs.Statements.{AnswersBy, IsEnd, Nobody, Did, Reports, ReportsOn, ReportedBy, RestsBy}
+use Rattle.upkeep_top.specs.Verdicts.{OnTable}
 use Rattle.upkeep_top.specs.declared.task.Task.{Task}
 use Rattle.upkeep_top.specs.declared.task.Work.TheVariants.{Move}
-use Rattle.upkeep_top.proofs.StepLaws as steps
+use Rattle.upkeep_top.proofs.StepLaws.{ends_in_sync, settled}
 
 nobody : IsNobody Nobody
 nobody past step h = h
@@ -49,180 +55,177 @@ since_both (Some old) a P Q s t =
     let same : t.now ≡ s.now = cc (somes) in
     record { now = s.now; is = s.is; holds = (s.holds, subst (λ (x : Past). Q old x) same t.holds) }
 
-module _ (word : ℕ) (table : Parts) (goal : Goal) (now : ℕ) (Drawn : ℕ → Type 0) (previous : Option ℤ) (id : ℤ) (Seen : Data → Type 0) (sees : (tree : Data) → Seen tree → HasSeen goal tree previous id) where
-  abbrev pub number : Parts → ℕ
-  number = number_in table
+-- What a commit tells where nobody else acts.
+
+-- a commit of a change with these meanings, between two moments
+pub record Commits (table : Parts) (meanings : Meanings) (Drawn : ℕ → Type 0) (now : ℕ) (result : Result Committed CommitErr) (mark : Option Failure) (had has : List Parts) (o a : Option Past) : Type 0 where
+  pub told : Since o a (CommitLeaves table Nobody meanings Drawn now result)
+  pub works : Since o a (CommitWorks table Nobody meanings Drawn now result mark had has)
+  pub caused : Since o a (IsCaused meanings Drawn table now result)
+  pub succeeds : Since o a (Succeeds meanings.successor table now result)
+  pub refused : (refusal : Refusal) → result ≡ Err (Attempt (attempts.Refused refusal)) → (tree : Data) × meanings.refuses tree (attempts.Refused refusal)
+
+module _ (table : Parts) (meanings : Meanings) (Drawn : ℕ → Type 0) (now : ℕ) where
+  -- the same, and nothing is said of what was kept of a base
+  abbrev pub unasked : Meanings
+  unasked = record { successor = meanings.successor; same = meanings.same; refuses = meanings.refuses; seen = Unasked }
+
+  abbrev pub Leaves : Result Committed CommitErr → Past → Past → Type 0
+  Leaves = CommitLeaves table Nobody meanings Drawn now
+
+  error_caused : (files : List Held) (e : CommitErr) → ErrorVerdict HasVersionLimit meanings Drawn table now files e → ErrorVerdict HasVersionLimit unasked Drawn table now files e
+  error_caused files (Open e) c = c
+  error_caused files (Attempt (attempts.Refused refusal)) c = c
+  error_caused files (Attempt (attempts.Conflict place other)) c = c
+  error_caused files (Attempt (attempts.NameTaken place)) c = c
+  error_caused files (Attempt (attempts.Read (Missing place))) c = c
+  error_caused files (Attempt (attempts.Read (Damaged place at))) c = c
+  error_caused files (Attempt (attempts.Read (Unsupported place what))) c = c
+  error_caused files (Attempt (attempts.Read (StoreFault place))) c = c
+  error_caused files (Attempt (attempts.Read Memory)) c = c
+  error_caused files (Contended v) c = c
+  error_caused files (CommitUnknown v) c = c
+
+  -- the cause of an answer is that of its end
+  pub end_caused : (files : List Held) (r : Result Committed CommitErr) → CommitVerdict HasVersionLimit meanings Drawn table now files r → EndVerdict HasVersionLimit unasked Drawn table now files (end_of r).versions (end_of r).error
+  end_caused files (Ok (Same v)) c = record { place = c.place; last = c.last; bytes = c.bytes; tree = c.tree; is = c.is; has = c.has; holds = c.holds.1 }
+  end_caused files (Ok (Published v)) c = (refl, c)
+  end_caused files (Err e) c = (refl, error_caused files e c)
+
+  -- the table was opened as it stood at the entry
+  opened_table : (old : Past) (place : Parts) (last : ℕ) (text : List ℕ) (tree : Data) → WasOpened table Nobody old place last text tree → IsTable table (replay old).files place last text tree
+  opened_table old place last text tree o =
+      let is = (opening_answered table Nobody nobody (Ok o.at) old o.mid o.opened).1 in
+      let files = (replay old).files in
+      subst (λ (p : Parts). IsTable table files p last text tree) (sym o.that.place_is)
+      (subst (λ (n : ℕ). IsTable table files o.at.place n text tree) (sym o.that.last_is)
+      (subst (λ (b : List ℕ). IsTable table files o.at.place o.at.version b tree) (sym o.that.text_is)
+      (subst (λ (d : Data). IsTable table files o.at.place o.at.version o.at.text d) (sym o.that.tree_is) is)))
+
+  pub end_works : (r : Result Committed CommitErr) (mark : Option Failure) (had has : List Parts) (old new : Past) → CommitWorks table Nobody meanings Drawn now r mark had has old new
+      → Works unasked.successor Drawn table now (IsTable table (replay old).files) (end_of r) mark had has old new
+  end_works r mark had has old new w =
+      works_turned meanings.successor meanings.successor Drawn table now (WasOpened table Nobody old) (IsTable table (replay old).files) (opened_table old) (λ place last text tree built base m. m) (end_of r) mark had has old new w
+
+  -- after the work is done nothing is pending
+  error_rests : (e : CommitErr) (past : Past) → RestsBy (commit_kind e) past
+  error_rests (Open (opens.NoTable place)) past = tt
+  error_rests (Open (opens.LocationDiffers place location)) past = tt
+  error_rests (Open (opens.Read (Missing place))) past = tt
+  error_rests (Open (opens.Read (Damaged place at))) past = tt
+  error_rests (Open (opens.Read (Unsupported place what))) past = tt
+  error_rests (Open (opens.Read (StoreFault place))) past = tt
+  error_rests (Open (opens.Read Memory)) past = tt
+  error_rests (Attempt (attempts.Refused refusal)) past = tt
+  error_rests (Attempt (attempts.Conflict place other)) past = tt
+  error_rests (Attempt (attempts.NameTaken place)) past = tt
+  error_rests (Attempt (attempts.Read (Missing place))) past = tt
+  error_rests (Attempt (attempts.Read (Damaged place at))) past = tt
+  error_rests (Attempt (attempts.Read (Unsupported place what))) past = tt
+  error_rests (Attempt (attempts.Read (StoreFault place))) past = tt
+  error_rests (Attempt (attempts.Read Memory)) past = tt
+  error_rests (Contended v) past = tt
+  error_rests (CommitUnknown v) past = tt
+
+  pub end_rests : (r : Result Committed CommitErr) (old new : Past) → (replay old).pending ≡ [] → Leaves r old new → RestsBy (kind_of (end_of r)) new
+  end_rests (Ok (Same v)) old new start a =
+      let opened : a.mid ≡ old = (opening_answered table Nobody nobody (Ok a.at) old a.mid a.opened).0 in
+      let still : new ≡ a.mid = unmoved (metadata_rules table Nobody) nobody Anything a.mid new a.then.4 in
+      subst (λ (p : Past). (replay p).pending ≡ []) (sym (still ∙ opened)) start
+  end_rests (Ok (Published v)) old new start a =
+      let run = a.then.3.left in
+      subst (λ (p : Past). (replay p).pending ≡ []) (sym run.is) (settled (metadata_reading table) a.mid run.events run.proper (ap ends_in_sync run.made))
+  end_rests (Err e) old new start a = error_rests e new
+
+  -- published versions are successors
+  pub end_succeeds : (r : Result Committed CommitErr) (old new : Past) → Succeeds meanings.successor table now r old new → AllSucceed unasked.successor table now (end_of r).versions old new
+  end_succeeds (Ok (Same v)) old new s = tt
+  end_succeeds (Ok (Published v)) old new s = (s, tt)
+  end_succeeds (Err e) old new s = tt
+
+  -- where the work is done, the change was asked on the table as it stood at the entry
+  pub on_seen : (c : Committed) (old new : Past) → Leaves (Ok c) old new → OnTable table (replay old).files (λ last tree. meanings.seen tree)
+  on_seen (Same v) old new a = record { place = a.at.place; last = a.at.version; bytes = a.at.text; tree = view a.at.meta; is = (opening_answered table Nobody nobody (Ok a.at) old a.mid a.opened).1; holds = a.then.3 }
+  on_seen (Published v) old new a = record { place = a.at.place; last = a.at.version; bytes = a.at.text; tree = view a.at.meta; is = (opening_answered table Nobody nobody (Ok a.at) old a.mid a.opened).1; holds = a.then.2 }
+
+-- What is told of an answer's error.
+
+pub answers_done : (word : ℕ) (c : Committed) (status : Status) → IsEnd status → AnswersBy word (end_of (Ok c)).error status
+answers_done word (Same v) status e = e
+answers_done word (Published v) status e = e
+
+pub error_of : (r : Result Committed CommitErr) (e : CommitErr) → (end_of r).error ≡ Some e → r ≡ Err e
+error_of (Ok (Same v)) e is = absurd (cc (is))
+error_of (Ok (Published v)) e is = absurd (cc (is))
+error_of (Err x) e is = let same : x ≡ e = cc (is) in ap (λ (y : CommitErr). Err y) same
+
+-- an error tells no versions
+pub tells_none : (r : Result Committed CommitErr) (e : CommitErr) → (end_of r).error ≡ Some e → (end_of r).versions ≡ []
+tells_none (Ok (Same v)) e is = absurd (cc (is))
+tells_none (Ok (Published v)) e is = absurd (cc (is))
+tells_none (Err x) e is = refl
+
+-- A move of a ref.
+
+-- a move refuses no base with a failed call, so that of an attempt is one of its publish
+pub move_fault : (goal : Goal) (now : ℕ) (Seen : Data → Type 0) (Drawn : ℕ → Type 0) (table : Parts) (r : Result Committed CommitErr) → TellsFault (moves_of goal now Seen) Drawn table r
+    → (place : Parts) → (end_of r).error ≡ Some (Attempt (attempts.Read (StoreFault place))) → IsPublishFault Drawn table place
+move_fault goal now Seen Drawn table r tells place is =
+    let told = error_of r (Attempt (attempts.Read (StoreFault place))) is in
+    elim (tells place told) [ inl refused ↦ absurd refused.1 | inr at ↦ at ]
+
+module _ (word : ℕ) (table : Parts) (goal : Goal) (now : ℕ) (Drawn : ℕ → Type 0) (Seen : Data → Type 0) where
+  abbrev pub task : Task
+  task = record { word = word; table = table; work = Move goal }
 
   abbrev pub meanings : Meanings
   meanings = moves_of goal now Seen
 
-  abbrev pub task : Task
-  task = record { word = word; table = table; work = Move goal }
+  module _ (r : Result Committed CommitErr) (mark : Option Failure) (had has : List Parts) (o a : Option Past) (commits : Commits table meanings Drawn now r mark had has o a) where
+    abbrev pub Told : Past → Past → Type 0
+    Told = CommitLeaves table Nobody meanings Drawn now r
 
-  abbrev pub Leaves : End → Past → Past → Type 0
-  Leaves = CommitLeaves table Nobody meanings Drawn now
+    abbrev pub Worked : Past → Past → Type 0
+    Worked = CommitWorks table Nobody meanings Drawn now r mark had has
 
-  abbrev pub Tried : End → Past → Past → Type 0
-  Tried = Attempted table Nobody meanings Drawn now
+    abbrev pub Caused : Past → Past → Type 0
+    Caused = IsCaused meanings Drawn table now r
 
-  abbrev pub DraftOf : At → Type 0
-  DraftOf at = Drafted Drawn (Moves goal now) table now at
+    abbrev pub Succeeded : Past → Past → Type 0
+    Succeeded = Succeeds meanings.successor table now r
 
-  module _ (at : At) (old mid : Past) (opened : IsAt table Nobody at old mid) where
-    same_mid : mid ≡ old
-    same_mid = (opening_answered table Nobody nobody (Ok at) old mid opened).0
+    pub did_move : WhereTold o (λ past. (replay past).pending ≡ []) → Since o a (Did task now Drawn (end_of r) mark had has)
+    did_move start =
+        let two = since_both o a Told Worked commits.told commits.works in
+        let three = since_both o a (λ old new. Told old new × Worked old new) Caused two commits.caused in
+        let all = since_both o a (λ old new. (Told old new × Worked old new) × Caused old new) Succeeded three commits.succeeds in
+        since_with o a (λ past. (replay past).pending ≡ []) (λ old new. ((Told old new × Worked old new) × Caused old new) × Succeeded old new) (Did task now Drawn (end_of r) mark had has) start all
+        (λ old new rest h. record {
+          cause = end_caused table meanings Drawn now (replay old).files r h.0.1;
+          safe = commit_steps table Nobody meanings Drawn now r old new h.0.0.0;
+          rests = end_rests table meanings Drawn now r old new rest h.0.0.0;
+          works = end_works table meanings Drawn now r mark had has old new h.0.0.1;
+          succeed = end_succeeds table meanings Drawn now r old new h.1;
+        })
 
-    table_is : IsTable table (replay old).files at.place at.version at.text (view at.meta)
-    table_is = (opening_answered table Nobody nobody (Ok at) old mid opened).1
+  -- where the ref was and is to be is reported, as it was kept of the base
+  module _ (kept : Goal) (previous : Option ℤ) (id : ℤ) (sees : (tree : Data) → Seen tree → (kept ≡ goal) × HasSeen goal tree previous id) (status : Status) (before after : Option (List ℕ)) where
+    says_move : (last : ℕ) (tree : Data) → Reports before after (move_report kept previous id) status → Seen tree → ReportsOn (move_procedure goal now) before after status last tree
+    says_move last tree put seen =
+        let it = sees tree seen in
+        (move_report kept previous id, (previous, id, it.1, ap (λ (g : Goal). move_report g previous id) it.0), put)
 
-    module _ (d : DraftOf at) where
-      target_is : (v : ℕ) → v ≡ at.version + 1 → number d.route.target ≡ v
-      target_is v is = d.aim.next ∙ ap (λ (p : Parts). number p + 1) d.base_is ∙ ap (λ (n : ℕ). n + 1) opened.numbers.is ∙ sym is
+    reported : (c : Committed) (old new : Past) → Reports before after (move_report kept previous id) status → CommitLeaves table Nobody meanings Drawn now (Ok c) old new
+        → OnTable table (replay old).files (ReportsOn (move_procedure goal now) before after status)
+    reported c old new put a =
+        let on = on_seen table meanings Drawn now c old new a in
+        record { place = on.place; last = on.last; bytes = on.bytes; tree = on.tree; is = on.is; holds = says_move on.last on.tree put on.holds }
 
-      positive : (v : ℕ) → v ≡ at.version + 1 → 0 < v
-      positive v is = omega (arith, is)
+    reported_by : (c : Committed) (old new : Past) → Reports before after (move_report kept previous id) status → CommitLeaves table Nobody meanings Drawn now (Ok c) old new
+        → ReportedBy (move_procedure goal now) table before after status (replay old).files (end_of (Ok c)).error
+    reported_by (Same v) old new put a = reported (Same v) old new put a
+    reported_by (Published v) old new put a = reported (Published v) old new put a
 
-      -- the versions of a publish that begins where the table was opened
-      published_in : (Made : List Step → Type 0) (K : Past → Type 0) (new : Past) (versions : List ℕ) (run : Ran (metadata_rules table Nobody) Made K mid new) → versions_of number (ours run.events) ≡ versions → Publishes number old new versions
-      published_in Made K new versions run is =
-          let here = subst (λ (p : Past). Publishes number p new (versions_of number (ours run.events))) same_mid (steps.publishes_by number (metadata_rules table Nobody) Made K mid new run) in
-          subst (λ (l : List ℕ). Publishes number old new l) is here
-
-  idle_steps : (end : End) (old new : Past) → new ≡ old → VersionsBy end [] → HasSteps table end old new
-  idle_steps end old new same none = ([], steps.publishes_none number old new same, none)
-
-  module _ (place : Parts) (old new : Past) where
-    fault_steps : Tried (Err (Attempt (attempts.Read (StoreFault place)))) old new → HasSteps table (Err (Attempt (attempts.Read (StoreFault place)))) old new
-    fault_steps a = elim a.then [
-      | inl barred ↦ absurd barred.refuses_it
-      | inr f ↦ ([], published_in a.at old a.mid a.opened f.drafted (Partly f.drafted.route f.drafted.bytes) Anything new [] f.left (steps.partly_none number f.drafted.route f.drafted.bytes (ours f.left.events) f.left.made), refl)
-    ]
-
-  memory_steps : (old new : Past) → Tried (Err (Attempt (attempts.Read Memory))) old new → HasSteps table (Err (Attempt (attempts.Read Memory))) old new
-  memory_steps old new a = elim a.then [
-    | inl idle ↦ ([], subst (λ (p : Past). Publishes number p new []) (same_mid a.at old a.mid a.opened) (subst (λ (l : List ℕ). Publishes number a.mid new l) (ap (versions_of number) idle.made) (steps.publishes_by number (metadata_rules table Nobody) (Exactly []) Anything a.mid new idle)), inl refl)
-    | inr p ↦ by_steps p (p.left.made)
-  ]
-    where
-      by_steps : (p : PublishedBy table Nobody meanings Drawn now a.at (Err publishes.NoMemory) a.mid new)
-          → Partly p.drafted.route p.drafted.bytes (ours p.left.events) ⊎ Reaching p.drafted.route p.drafted.bytes (ours p.left.events) → HasSteps table (Err (Attempt (attempts.Read Memory))) old new
-      by_steps p (inl part) = ([], published_in a.at old a.mid a.opened p.drafted _ Anything new [] p.left (steps.partly_none number p.drafted.route p.drafted.bytes (ours p.left.events) part), inl refl)
-      by_steps p (inr reach) = elim (steps.reaching_one number p.drafted.route p.drafted.bytes (a.at.version + 1) (ours p.left.events) (target_is a.at old a.mid a.opened p.drafted (a.at.version + 1) refl) (positive a.at old a.mid a.opened p.drafted (a.at.version + 1) refl) reach) [
-        | inl none ↦ ([], published_in a.at old a.mid a.opened p.drafted _ Anything new [] p.left none, inl refl)
-        | inr one ↦ ((a.at.version + 1) ∷ [], published_in a.at old a.mid a.opened p.drafted _ Anything new ((a.at.version + 1) ∷ []) p.left one, inr (a.at.version + 1, refl))
-      ]
-
-  unknown_steps : (v : ℕ) (old new : Past) → Tried (Err (CommitUnknown v)) old new → HasSteps table (Err (CommitUnknown v)) old new
-  unknown_steps v old new a =
-      let p = a.then.2 in
-      elim (steps.reaching_one number p.drafted.route p.drafted.bytes v (ours p.left.events) (target_is a.at old a.mid a.opened p.drafted v a.then.0) (positive a.at old a.mid a.opened p.drafted v a.then.0) p.left.made) [
-        | inl none ↦ ([], published_in a.at old a.mid a.opened p.drafted _ Anything new [] p.left none, inl refl)
-        | inr one ↦ (v ∷ [], published_in a.at old a.mid a.opened p.drafted _ Anything new (v ∷ []) p.left one, inr refl)
-      ]
-
-  published_steps : (v : ℕ) (old new : Past) → Tried (Ok (Published v)) old new → HasSteps table (Ok (Published v)) old new
-  published_steps v old new a =
-      let p = a.then.3 in
-      let one = steps.published_one number p.drafted.route p.drafted.bytes v (target_is a.at old a.mid a.opened p.drafted v a.then.0) (positive a.at old a.mid a.opened p.drafted v a.then.0) in
-      (v ∷ [], published_in a.at old a.mid a.opened p.drafted _ _ new (v ∷ []) p.left (ap (versions_of number) p.left.made ∙ one), refl)
-
-  has_steps : (end : End) (old new : Past) → Leaves end old new → IsIdle end old new → CommitVerdict meanings Drawn table now (replay old).files end → HasSteps table end old new
-  has_steps (Ok (Same v)) old new a idle cause = idle_steps (Ok (Same v)) old new idle refl
-  has_steps (Ok (Published v)) old new a idle cause = published_steps v old new a
-  has_steps (Err (Open e)) old new a idle cause = idle_steps (Err (Open e)) old new idle refl
-  has_steps (Err (Attempt (attempts.Refused refusal))) old new a idle cause = idle_steps (Err (Attempt (attempts.Refused refusal))) old new idle refl
-  has_steps (Err (Attempt (attempts.Conflict place other))) old new a idle cause = idle_steps (Err (Attempt (attempts.Conflict place other))) old new idle refl
-  has_steps (Err (Attempt (attempts.NameTaken place))) old new a idle cause = idle_steps (Err (Attempt (attempts.NameTaken place))) old new idle refl
-  has_steps (Err (Attempt (attempts.Read (Missing place)))) old new a idle cause = idle_steps (Err (Attempt (attempts.Read (Missing place)))) old new idle refl
-  has_steps (Err (Attempt (attempts.Read (Damaged place at)))) old new a idle cause = idle_steps (Err (Attempt (attempts.Read (Damaged place at)))) old new idle refl
-  has_steps (Err (Attempt (attempts.Read (Unsupported place what)))) old new a idle cause = idle_steps (Err (Attempt (attempts.Read (Unsupported place what)))) old new idle refl
-  has_steps (Err (Attempt (attempts.Read (StoreFault place)))) old new a idle cause = fault_steps place old new a
-  has_steps (Err (Attempt (attempts.Read Memory))) old new a idle cause = memory_steps old new a
-  has_steps (Err (Contended v)) old new a idle cause = absurd cause
-  has_steps (Err (CommitUnknown v)) old new a idle cause = unknown_steps v old new a
-
-  -- after the work is done nothing is pending
-  rests : (end : End) (old new : Past) → (replay old).pending ≡ [] → Leaves end old new → IsIdle end old new → RestsBy end new
-  rests (Ok (Same v)) old new start a idle = subst (λ (p : Past). (replay p).pending ≡ []) (sym idle) start
-  rests (Ok (Published v)) old new start a idle =
-      let run = a.then.3.left in
-      subst (λ (p : Past). (replay p).pending ≡ []) (sym run.is) (steps.settled (metadata_reading table) a.mid run.events run.proper (ap steps.ends_in_sync run.made))
-  rests (Err e) old new start a idle = tt
-
-  -- a published version is a successor
-  succeeded : (end : End) (old new : Past) → Leaves end old new → HasSucceeded task now end old new
-  succeeded (Ok (Same v)) old new a = tt
-  succeeded (Ok (Published v)) old new a = succeeds table Nobody nobody meanings Drawn now (Ok (Published v)) old new a
-  succeeded (Err e) old new a = tt
-
-  -- the steps where the work is done
-  took : (end : End) (old new : Past) → Leaves end old new → IsIdle end old new → Took (DoneSteps end) old new
-  took (Ok (Same v)) old new a idle = record { events = []; is = idle ∙ sym (later-nil old); steps = refl }
-  took (Ok (Published v)) old new a idle =
-      let d = a.then.3.drafted in
-      let run = a.then.3.left in
-      record { events = run.events; is = run.is ∙ ap (λ (p : Past). later p run.events) (same_mid a.at old a.mid a.opened); steps = (d.route.draft, d.route.target, d.bytes, run.made) }
-  took (Err e) old new a idle =
-      let run = commit_steps table Nobody meanings Drawn now (Err e) old new a in
-      record { events = run.events; is = run.is; steps = tt }
-
-  -- the report was put where the work is done
-  abbrev pub PutBy : End → Option (List ℕ) → Option (List ℕ) → Status → Type 0
-  PutBy (Ok c) before after status = Reports before after (move_report goal previous id) status
-  PutBy (Err e) before after status = after ≡ before
-
-  -- its report
-  reported : (end : End) (old new : Past) (status : Status) (before after : Option (List ℕ)) → Leaves end old new → PutBy end before after status → ReportedBy task before after status (replay old).files end
-  reported (Ok (Same v)) old new status before after a put = record { place = a.at.place; last = a.at.version; bytes = a.at.text; tree = view a.at.meta; is = table_is a.at old a.mid a.opened; holds = (move_report goal previous id, (previous, id, sees (view a.at.meta) a.then.3, refl), put) }
-  reported (Ok (Published v)) old new status before after a put = record { place = a.at.place; last = a.at.version; bytes = a.at.text; tree = view a.at.meta; is = table_is a.at old a.mid a.opened; holds = (move_report goal previous id, (previous, id, sees (view a.at.meta) a.then.2, refl), put) }
-  reported (Err e) old new status before after a put = put
-
-  -- the cause of an end doesn't tell what was kept of the base
-  unasked : (end : End) (old : Past) → CommitVerdict meanings Drawn table now (replay old).files end → CommitVerdict (moves_of goal now Unasked) Drawn table now (replay old).files end
-  unasked (Ok (Same v)) old cause = cause
-  unasked (Ok (Published v)) old cause = cause
-  unasked (Err (Open e)) old cause = cause
-  unasked (Err (Attempt (attempts.Refused refusal))) old cause = cause
-  unasked (Err (Attempt (attempts.Conflict place other))) old cause = cause
-  unasked (Err (Attempt (attempts.NameTaken place))) old cause = cause
-  unasked (Err (Attempt (attempts.Read (Missing place)))) old cause = cause
-  unasked (Err (Attempt (attempts.Read (Damaged place at)))) old cause = cause
-  unasked (Err (Attempt (attempts.Read (Unsupported place what)))) old cause = cause
-  unasked (Err (Attempt (attempts.Read (StoreFault place)))) old cause = cause
-  unasked (Err (Attempt (attempts.Read Memory))) old cause = cause
-  unasked (Err (Contended v)) old cause = cause
-  unasked (Err (CommitUnknown v)) old cause = cause
-
-  pub did_move : (end : End) (old new : Past) (status : Status) (before after : Option (List ℕ)) → (replay old).pending ≡ [] → Leaves end old new
-      → CommitVerdict meanings Drawn table now (replay old).files end → IsIdle end old new → PutBy end before after status → Did task now Drawn end status before after old new
-  did_move end old new status before after start a cause idle put = record {
-    cause = unasked end old cause;
-    idle = idle;
-    safe = commit_steps table Nobody meanings Drawn now end old new a;
-    rests = rests end old new start a idle;
-    steps = has_steps end old new a idle cause;
-    took = took end old new a idle;
-    succeeded = succeeded end old new a;
-    report = reported end old new status before after a put;
-  }
-
-  -- where a history is told
-  pub did_since : (end : End) (status : Status) (before after : Option (List ℕ)) (o a : Option Past) → WhereTold o (λ past. (replay past).pending ≡ []) → Since o a (Leaves end)
-      → Since o a (λ old new. CommitVerdict meanings Drawn table now (replay old).files end) → Since o a (IsIdle end) → PutBy end before after status
-      → Since o a (Did task now Drawn end status before after)
-  did_since end status before after o a start told cause idle put =
-      let Cause : Past → Past → Type 0 = λ old new. CommitVerdict meanings Drawn table now (replay old).files end in
-      let both = since_both o a (Leaves end) Cause told cause in
-      let all = since_both o a (λ old new. Leaves end old new × Cause old new) (IsIdle end) both idle in
-      since_with o a (λ past. (replay past).pending ≡ []) (λ old new. (Leaves end old new × Cause old new) × IsIdle end old new) (Did task now Drawn end status before after) start all
-      (λ old new rest h. did_move end old new status before after rest h.0.0 h.0.1 h.1 put)
-
-  -- where the change was made with a moment that is this one
-  pub did_at : (moment : ℕ) → moment ≡ now → (end : End) (status : Status) (before after : Option (List ℕ)) (o a : Option Past) → WhereTold o (λ past. (replay past).pending ≡ [])
-      → Since o a (CommitLeaves table Nobody (moves_of goal moment Seen) Drawn now end)
-      → Since o a (λ old new. CommitVerdict (moves_of goal moment Seen) Drawn table now (replay old).files end) → Since o a (IsIdle end) → PutBy end before after status
-      → Since o a (Did task now Drawn end status before after)
-  did_at moment same end status before after o a start told cause idle put =
-      let Told : ℕ → Type 0 = λ m. Since o a (CommitLeaves table Nobody (moves_of goal m Seen) Drawn now end) in
-      let Causes : ℕ → Type 0 = λ m. Since o a (λ old new. CommitVerdict (moves_of goal m Seen) Drawn table now (replay old).files end) in
-      did_since end status before after o a start (subst Told same told) (subst Causes same cause) idle put
+    pub report_move : (c : Committed) (o a : Option Past) → Reports before after (move_report kept previous id) status → Since o a (CommitLeaves table Nobody meanings Drawn now (Ok c))
+        → Since o a (λ old new. ReportedBy (move_procedure goal now) table before after status (replay old).files (end_of (Ok c)).error)
+    report_move c o a put told = since_turned o a (CommitLeaves table Nobody meanings Drawn now (Ok c)) (λ old new. ReportedBy (move_procedure goal now) table before after status (replay old).files (end_of (Ok c)).error) told (λ old new h. reported_by c old new put h)

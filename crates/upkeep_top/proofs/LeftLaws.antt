@@ -1,169 +1,80 @@
--- Which places a run leaves.
-use Rattle.std.proofs.Common.{◌≡◌, inl, inr, ℕ, suc, ◌+◌, ◌≤◌, List, [], ◌∷◌, ◌++◌, length, Option, Some, None, Ok, Err, refl, sym, ap, ◌∙◌, subst, arith, append-nil, append_assoc, length-append}
+-- Which places the steps of work leave.
+use Rattle.std.proofs.Common.{◌≡◌, ◌⊎◌, inl, inr, ℕ, suc, Bool, true, false, List, [], ◌∷◌, ◌++◌, length, Option, Some, refl, sym, ap, ◌∙◌, subst}
+use Rattle.serde_json.specs.Data.{Data}
 use Rattle.ice_store.specs.Places.{Parts}
 use Rattle.ice_store.specs.Calls.{Rose}
-use Rattle.ice_store.specs.Given.{Gives}
-use Rattle.ice_store.specs.History.{later}
-use Rattle.ice_store.proofs.HistoryLaws.{later-later}
-use Rattle.ice_store.proofs.OthersLaws.{later-nil}
-use Rattle.ice_store.specs.Since.{Since}
-use Rattle.ice_store.proofs.SinceLaws.{since_turned, since_then, since_start}
-use Rattle.ice_store.specs.declared.history.Event.{Event}
+use Rattle.ice_store.specs.declared.history.Failure.{Failure}
+use Rattle.ice_store.specs.declared.history.Held.{Held}
 use Rattle.ice_store.specs.declared.history.Past.{Past}
 use Rattle.ice_store.specs.declared.history.Step.{Step}
-use Rattle.ice_store.specs.declared.history.Step.TheVariants.{Rename, SyncNames}
-use Rattle.commit_history.specs.Runs.{ours}
-use Rattle.commit_history.proofs.Running.{ours-append}
-use Rattle.commit_publish.specs.Left.{IsMore, Leaves, Notes, made_by}
-use Rattle.commit_publish.specs.Stages.{Anything, draft_plan}
-use Rattle.commit_publish.proofs.LeftLaws.{rose_on, without_only}
-use Rattle.commit_protocol.specs.Written.{IsNamingOf, commits, commit_count}
-use Rattle.commit_protocol.specs.declared.errors.Committed.{Committed}
-use Rattle.commit_protocol.specs.declared.errors.Committed.TheVariants.{Same, Published}
-use Rattle.run_answers.specs.declared.status.Status.{Status}
-use Rattle.run_answers.specs.declared.status.Status.TheVariants.{Done}
-use Rattle.upkeep_top.specs.Chains.{Leads}
-use Rattle.upkeep_top.specs.Points.{Point}
-use Rattle.upkeep_top.specs.Promises.{Took, DoneSteps}
-use Rattle.upkeep_top.specs.Runs.{IsDone, RunsBy, LeavesPlaces, IsNamingIn}
-use Rattle.upkeep_top.specs.Statements.{Ends, Did}
-use Rattle.upkeep_top.specs.Verdicts.{End}
-use Rattle.upkeep_top.specs.Words.{AreOf}
-use Rattle.upkeep_top.specs.declared.task.Task.{Task}
-use Rattle.upkeep_top.proofs.StopLaws.{front_of, told_any}
-use Rattle.upkeep_top.proofs.VersionLaws.{done_is, leads_left}
-
--- Where nothing was done.
-
-since_none : (o : Option Past) (Risen : Type 0) (Tried : Step → Type 0) (left : List Parts) → Since o o (Notes Risen Tried 0 [] left left)
-since_none None Risen Tried left = refl
-since_none (Some old) Risen Tried left = record {
-  now = old;
-  is = refl;
-  holds = record { left = []; noted = sym (append-nil left); leaves = record { events = []; is = sym (later-nil old); places = record { more = []; is = refl; cause = inl refl } } };
-}
-
-pub nothing_noted : (o a : Option Past) → a ≡ o → (Risen : Type 0) (Tried : Step → Type 0) (left : List Parts) → Since o a (Notes Risen Tried 0 [] left left)
-nothing_noted o a same Risen Tried left = subst (λ (x : Option Past). Since o x (Notes Risen Tried 0 [] left left)) (sym same) (since_none o Risen Tried left)
-
--- Statements that are Done.
+use Rattle.ice_store.specs.declared.store.StoreErr.TheVariants.{Failed, Memory}
+use Rattle.commit_publish.specs.Kinds as kinds
+use Rattle.commit_publish.specs.Kinds.{Kind, Counts, Failing}
+use Rattle.commit_publish.specs.Left.{IsLeft, made_by}
+use Rattle.commit_publish.specs.Logs.{left_at}
+use Rattle.commit_publish.specs.Steps.{steps_before, publish_plan, lost_plan}
+use Rattle.commit_publish.proofs.LeftLaws.{exact, failed_left, unmade_at, without_only}
+use Rattle.commit_protocol.specs.Ends.{IsFailed}
+use Rattle.commit_protocol.specs.Verdicts.{IsTable}
+use Rattle.upkeep_top.proofs.VersionLaws.{IsTold, ThePublish, the_draft, the_target, Took}
 
 -- one publish leaves no place, where its version is a committed one
-one_publish : (draft target : Parts) (bytes : List ℕ) (n : ℕ) (rest : List Step) → made_by (suc n) [] ((draft_plan draft bytes ++ (Rename draft target ∷ SyncNames ∷ [])) ++ rest) ≡ made_by n [] rest
+pub one_publish : (draft target : Parts) (bytes : List ℕ) (n : ℕ) (rest : List Step) → made_by (suc n) [] (publish_plan draft target bytes ++ rest) ≡ made_by n [] rest
 one_publish draft target bytes n rest = ap (λ (l : List Parts). made_by n l rest) (without_only draft)
 
--- versions were added, and of the places that the steps made none is left
-pub record Cleared (before after : List ℕ) (old new : Past) : Type 0 where
-  pub events : List Event
-  pub is : new ≡ later old events
-  pub more : List ℕ
-  pub added : after ≡ before ++ more
-  pub clears : (n : ℕ) (rest : List Step) → made_by (length more + n) [] (ours events ++ rest) ≡ made_by n [] rest
+module _ (successor : Data → Data → Type 0) (Drawn : ℕ → Type 0) (table : Parts) (now : ℕ) (files : List Held) (before after : ℕ) (mark : Option Failure) (past : Past) where
+  abbrev pub Did : Kind → List ℕ → List Step → List Parts → Type 0
+  Did = Took successor Drawn table now files (Failing mark past)
 
-cleared_none : (committed : List ℕ) (old : Past) → Cleared committed committed old old
-cleared_none committed old = record {
-  events = [];
-  is = sym (later-nil old);
-  more = [];
-  added = sym (append-nil committed);
-  clears = λ n rest. let e : length {A = ℕ} [] + n ≡ n = omega arith in ap (λ (k : ℕ). made_by k [] rest) e;
-}
+  abbrev pub Left : ℕ → List Step → List Parts → Type 0
+  Left count steps left = IsLeft (Rose before after) mark count [] steps left
 
-cleared_ok : (c : Committed) (before after : List ℕ) (old new : Past) → after ≡ commits (Ok c) before → Took (DoneSteps (Ok c)) old new → Cleared before after old new
-cleared_ok (Same v) before after old new is t = record {
-  events = t.events;
-  is = t.is;
-  more = [];
-  added = is ∙ sym (append-nil before);
-  clears = λ n rest. let e : length {A = ℕ} [] + n ≡ n = omega arith in ap (λ (k : ℕ). made_by k [] (ours t.events ++ rest)) e ∙ ap (λ (l : List Step). made_by n [] (l ++ rest)) t.steps;
-}
-cleared_ok (Published v) before after old new is t = record {
-  events = t.events;
-  is = t.is;
-  more = v ∷ [];
-  added = is;
-  clears = λ n rest.
-      let e : length (v ∷ []) + n ≡ suc n = omega arith in
-      ap (λ (k : ℕ). made_by k [] (ours t.events ++ rest)) e ∙ ap (λ (l : List Step). made_by (suc n) [] (l ++ rest)) t.steps.3 ∙ one_publish t.steps.0 t.steps.1 t.steps.2 n rest;
-}
+  abbrev draft : ThePublish successor Drawn table now files → Parts
+  draft p = the_draft successor Drawn table now files p
 
-cleared_then : (before mid after : List ℕ) (old between new : Past) → Cleared before mid old between → Cleared mid after between new → Cleared before after old new
-cleared_then before mid after old between new a b = record {
-  events = a.events ++ b.events;
-  is = b.is ∙ ap (λ (p : Past). later p b.events) a.is ∙ later-later old a.events b.events;
-  more = a.more ++ b.more;
-  added = b.added ∙ ap (λ (l : List ℕ). l ++ b.more) a.added ∙ append_assoc before a.more b.more;
-  clears = λ n rest.
-      let steps : ours (a.events ++ b.events) ++ rest ≡ ours a.events ++ (ours b.events ++ rest) = ap (λ (l : List Step). l ++ rest) (ours-append a.events b.events) ∙ append_assoc (ours a.events) (ours b.events) rest in
-      let all = length-append a.more b.more in
-      let count : length (a.more ++ b.more) + n ≡ length a.more + (length b.more + n) = omega (arith, all) in
-      ap (λ (l : List Step). made_by (length (a.more ++ b.more) + n) [] l) steps
-      ∙ ap (λ (k : ℕ). made_by k [] (ours a.events ++ (ours b.events ++ rest))) count
-      ∙ a.clears (length b.more + n) (ours b.events ++ rest)
-      ∙ b.clears n rest;
-}
+  abbrev target : ThePublish successor Drawn table now files → Parts
+  target p = the_target successor Drawn table now files p
 
-done_cleared : (t : Task) (p q : Point) → IsDone t p q → Since p.past q.past (Cleared p.committed q.committed)
-done_cleared t p q e =
-    let c = done_is t.word e.end e.answers in
-    let committed : q.committed ≡ commits (Ok c.0) p.committed = subst (λ (x : End). q.committed ≡ commits x p.committed) c.1 e.committed in
-    since_turned p.past q.past (Did t e.now (Gives p.identifiers q.identifiers) e.end Done p.output q.output) (Cleared p.committed q.committed) e.did
-    (λ old now d. cleared_ok c.0 p.committed q.committed old now committed (subst (λ (x : End). Took (DoneSteps x) old now) c.1 d.took))
+  alike : (count : ℕ) (steps steps' : List Step) (left left' : List Parts) → steps ≡ steps' → left ≡ left' → Left count steps' left' → Left count steps left
+  alike count steps steps' left left' same places l = subst (λ (x : List Step). Left count x left) (sym same) (subst (λ (x : List Parts). Left count steps' x) (sym places) l)
 
-pub leads_cleared : (ts : List Task) (p q : Point) → Leads IsDone ts p q → Since p.past q.past (Cleared p.committed q.committed)
-leads_cleared [] p q h =
-    subst (λ (x : Point). Since p.past x.past (Cleared p.committed x.committed)) (sym h)
-    (since_start p.past Anything (Cleared p.committed p.committed) (told_any p.past) (λ old any. cleared_none p.committed old))
-leads_cleared (t ∷ ts) p q h =
-    since_then p.past h.0.past q.past (Cleared p.committed h.0.committed) (Cleared h.0.committed q.committed) (Cleared p.committed q.committed)
-    (done_cleared t p h.0 h.1) (leads_cleared ts h.0 q h.2) (cleared_then p.committed h.0.committed q.committed)
+  nothing : (steps : List Step) (left : List Parts) → steps ≡ [] → left ≡ [] → Left 0 steps left
+  nothing steps left none empty = alike 0 steps [] left [] none empty (exact (Rose before after) mark 0 [] [] refl)
 
--- The last statement.
+  failed : (renaming : Bool) (p : ThePublish successor Drawn table now files) (steps : List Step) (left : List Parts) → Rose before after
+      → IsFailed successor Drawn table now (IsTable table files) (Failing mark past) renaming p steps left → Left 0 steps left
+  failed renaming p steps left rose f =
+      let stop = f.stopped.steps_are in
+      alike 0 steps (steps_before (draft p) (target p) p.bytes f.call ++ stop.0) left (left_at (draft p) (target p) f.call Failed) stop.2 f.stopped.left_is
+      (failed_left (draft p) (target p) p.bytes (Rose before after) mark rose past f.call stop.0 f.failed stop.1)
 
-commits_length : (end : End) (committed : List ℕ) → length (commits end committed) ≡ length committed + commit_count end
-commits_length (Ok (Same v)) committed = omega arith
-commits_length (Ok (Published v)) committed = length-append committed (v ∷ [])
-commits_length (Err e) committed = omega arith
+  -- where no version is told
+  kind_left : (kind : Kind) (steps : List Step) (left : List Parts) → Counts kind before after → Did kind [] steps left → Left 0 steps left
+  kind_left kinds.Done steps left counts t = nothing steps left t.0 t.1
+  kind_left kinds.Told steps left counts t = nothing steps left t.1.0 t.1.1
+  kind_left (kinds.Fault place) steps left counts (none, inl t) = nothing steps left t.1.0 t.1.1
+  kind_left (kinds.Fault place) steps left counts (none, inr t) = failed false t.0 steps left counts t.1
+  kind_left (kinds.Unknown version) steps left counts (none, t) = failed true t.0 steps left counts t.2
+  kind_left (kinds.Lost version) steps left counts t =
+      let p = t.1.publish in
+      alike 0 steps (lost_plan (draft p) p.bytes) left [] t.1.steps_are t.2 (exact (Rose before after) mark 0 (lost_plan (draft p) p.bytes) [] (sym (without_only (draft p))))
+  kind_left kinds.Memory steps left counts (none, inl t) = nothing steps left t.0 t.1
+  kind_left kinds.Memory steps left counts (none, inr t) =
+      let p = t.0 in
+      alike 0 steps (steps_before (draft p) (target p) p.bytes t.1) left (left_at (draft p) (target p) t.1 Memory) t.2.steps_are t.2.left_is
+      (exact (Rose before after) mark 0 (steps_before (draft p) (target p) p.bytes t.1) (left_at (draft p) (target p) t.1 Memory) (unmade_at (draft p) (target p) p.bytes (Rose before after) mark t.1))
 
-more_in : (Drawn : ℕ → Type 0) (table : Parts) (a b c : ℕ) (more : List Parts) → a ≤ b → IsMore (Rose b c) (IsNamingOf Drawn table) more → IsMore (Rose a c) (IsNamingIn table) more
-more_in Drawn table a b c more le (inl none) = inl none
-more_in Drawn table a b c more le (inr one) = let tried = one.1.1 in inr (rose_on a b c le one.0, (one.1.0, (tried.0, tried.1.0, tried.1.1.1), one.1.2))
+  -- where work is done
+  done_left : (versions : List ℕ) (steps : List Step) (left : List Parts) → Did kinds.Done versions steps left → Left (length versions) steps left
+  done_left [] steps left t = nothing steps left t.0 t.1
+  done_left (v ∷ versions) steps left t =
+      let b = t.1 in
+      let p = b.publish in
+      let plan = publish_plan (draft p) (target p) p.bytes in
+      subst (λ (vs : List ℕ). Left (length (v ∷ vs)) steps left) (sym t.0)
+      (alike 1 steps plan left [] b.steps_are t.2 (exact (Rose before after) mark 1 plan [] (sym (without_only (draft p)))))
 
-module _ (table : Parts) (before : List Task) (t : Task) (status : Status) (p from q : Point) (of_table : t.table ≡ table) (none : p.committed ≡ []) (empty : p.left ≡ []) (later_on : p.faults ≤ from.faults) where
-  places_left : Leads IsDone before p from → Ends t status from q → Since p.past q.past (Leaves (Rose p.faults q.faults) (IsNamingIn table) (length q.committed) [] q.left)
-  places_left led e =
-      let Drawn = Gives from.identifiers q.identifiers in
-      let Noted : Past → Past → Type 0 = Notes (Rose from.faults q.faults) (IsNamingOf Drawn t.table) (commit_count e.end) [] from.left q.left in
-      let start : from.left ≡ [] = leads_left before p from led ∙ empty in
-      since_then p.past from.past q.past (Cleared p.committed from.committed) Noted (Leaves (Rose p.faults q.faults) (IsNamingIn table) (length q.committed) [] q.left) (leads_cleared before p from led) e.noted
-      (λ old mid new c n.
-      let events = n.leaves.events in
-      let places = n.leaves.places in
-      let has : from.committed ≡ c.more = c.added ∙ ap (λ (l : List ℕ). l ++ c.more) none in
-      let count : length q.committed ≡ length c.more + commit_count e.end = ap length e.committed ∙ commits_length e.end from.committed ∙ ap (λ (l : List ℕ). length l + commit_count e.end) has in
-      let made : made_by (length q.committed) [] (ours (c.events ++ events)) ≡ made_by (commit_count e.end) [] (ours events) =
-      ap (λ (k : ℕ). made_by k [] (ours (c.events ++ events))) count
-      ∙ ap (λ (l : List Step). made_by (length c.more + commit_count e.end) [] l) (ours-append c.events events)
-      ∙ c.clears (commit_count e.end) (ours events) in
-      let left : q.left ≡ n.left = n.noted ∙ ap (λ (l : List Parts). l ++ n.left) start in
-      record {
-        events = c.events ++ events;
-        is = n.leaves.is ∙ ap (λ (x : Past). later x events) c.is ∙ later-later old c.events events;
-        places = record {
-          more = places.more;
-          is = left ∙ places.is ∙ ap (λ (l : List Parts). l ++ places.more) (sym made);
-          cause = subst (λ (x : Parts). IsMore (Rose p.faults q.faults) (IsNamingIn x) places.more) of_table (more_in Drawn t.table p.faults from.faults q.faults places.more later_on places.cause);
-        };
-      })
-
-pub leaves_places : (words : List (List ℕ)) (status : Status) (p q : Point) → p.committed ≡ [] → p.left ≡ [] → ((tasks : List Task) (a b : Point) → Leads IsDone tasks a b → a.faults ≤ b.faults) → RunsBy words status p q
-    → Since p.past q.past (LeavesPlaces words q.committed q.left (Rose p.faults q.faults))
-leaves_places words status p q none empty on (inl r) =
-    subst (λ (x : Point). Since p.past x.past (LeavesPlaces words x.committed x.left (Rose p.faults x.faults))) (sym r.1)
-    (since_start p.past Anything (LeavesPlaces words p.committed p.left (Rose p.faults p.faults)) (told_any p.past) (λ old any. inl (refl, empty)))
-leaves_places words status p q none empty on (inr r) =
-    let e = r.ended in
-    let parts = front_of r.table e.before e.task e.after (subst (λ (l : List Task). AreOf r.table l) e.is r.ask.of_table) in
-    since_turned p.past q.past (Leaves (Rose p.faults q.faults) (IsNamingIn r.table) (length q.committed) [] q.left) (LeavesPlaces words q.committed q.left (Rose p.faults q.faults))
-    (places_left r.table e.before e.task status p e.from q parts.1 none empty (on e.before p e.from e.led) e.led e.ends)
-    (λ old new l. inr (r.table, (r.tasks, r.ask), l))
+  pub took_left : (kind : Kind) (versions : List ℕ) (steps : List Step) (left : List Parts) → IsTold kind versions → Counts kind before after → Did kind versions steps left → Left (length versions) steps left
+  took_left kind versions steps left (inl done) counts t = done_left versions steps left (subst (λ (k : Kind). Did k versions steps left) done t)
+  took_left kind versions steps left (inr none) counts t =
+      subst (λ (vs : List ℕ). Left (length vs) steps left) (sym none) (kind_left kind steps left counts (subst (λ (vs : List ℕ). Did kind vs steps left) none t))

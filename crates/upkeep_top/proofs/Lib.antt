@@ -2,6 +2,9 @@ mod ChainLaws
 mod StepLaws
 mod VerdictLaws
 mod EndLaws
+mod StatusLaws
+mod KindLaws
+mod StretchLaws
 mod ListLaws
 mod WordLaws
 mod StopLaws
@@ -10,6 +13,6 @@ mod SuccessorLaws
 mod RunLaws
 mod WordSteps
 mod TaskSteps
-pub mod LeftLaws
-pub mod RefusalLaws
+mod LeftLaws
+mod RefusalLaws
 mod FailLaws

@@ -1,169 +1,79 @@
--- A word is told as bad only where the words are refused.
-use Rattle.std.proofs.Common.{◌≡◌, inl, inr, ℕ, ℤ, Bool, true, false, List, Option, Some, None, Ok, Err, refl, sym, ap, ◌∙◌, subst}
-use Rattle.serde_json.specs.Data.{Data}
-use Rattle.ice_store.specs.Given.{Gives}
-use Rattle.ice_store.specs.History.{replay}
-use Rattle.ice_store.specs.Places.{Parts}
-use Rattle.ice_store.specs.Since.{Since}
-use Rattle.ice_store.proofs.SinceLaws.{since_then, since_start}
-use Rattle.ice_store.specs.declared.history.Held.{Held}
-use Rattle.ice_store.specs.declared.history.Past.{Past}
-use Rattle.ice_store.specs.declared.faults.ReadErr.TheVariants.{Missing, Damaged, Unsupported, StoreFault as Fault, Memory}
-use Rattle.metadata_view.specs.View.{snapshots_of, current_of}
-use Rattle.metadata_view.specs.Walk.{snapshot_with}
-use Rattle.metadata_view.specs.declared.types.Snapshot.{Snapshot}
-use Rattle.commit_publish.specs.Stages.{Anything}
+-- When a run tells that words are refused.
+use Rattle.std.proofs.Common.{◌≡◌, ◌⊎◌, inl, inr, ℕ, Bool, true, false, List, Contains, Option, Some, None, refl, sym, ap, ◌∙◌, subst}
+use Rattle.ice_store.specs.declared.faults.ReadErr.{ReadErr}
+use Rattle.ice_store.specs.declared.faults.ReadErr.TheVariants as reads
 use Rattle.commit_versions.specs.declared.types.OpenErr.TheVariants as opens
 use Rattle.commit_protocol.specs.declared.errors.Refusal.{Refusal}
 use Rattle.commit_protocol.specs.declared.errors.Refusal.TheVariants as refusals
 use Rattle.commit_protocol.specs.declared.errors.AttemptErr.TheVariants as attempts
 use Rattle.commit_protocol.specs.declared.errors.CommitErr.{CommitErr}
 use Rattle.commit_protocol.specs.declared.errors.CommitErr.TheVariants.{Open, Attempt, Contended, CommitUnknown}
-use Rattle.run_answers.specs.Answers.{status_of}
+use Rattle.run_answers.specs.Answers.{read_status, refusal_status, status_of}
 use Rattle.run_answers.specs.declared.status.Status.{Status}
 use Rattle.run_answers.specs.declared.status.Status.TheVariants.{BadStatement, BadArgument, OutOfMemory}
-use Rattle.run_refs.specs.Moves.{Aims, AimsBack, AimsAt, AimsTo, AimsForward, AimsIfAncestor}
-use Rattle.run_refs.specs.Refs.{ref_at, branch_at}
-use Rattle.run_refs.specs.declared.goal.Goal.{Goal}
-use Rattle.run_refs.specs.declared.goal.Goal.TheVariants.{Rollback, SetCurrent, SetCurrentTo, FastForward}
-use Rattle.upkeep_top.specs.Chains.{Leads}
 use Rattle.upkeep_top.specs.Points.{Point}
-use Rattle.upkeep_top.specs.Runs.{IsDone, IsRefusal, RunsBy, TellsBadArgument}
-use Rattle.upkeep_top.specs.Statements.{Did, AnswersBy}
-use Rattle.upkeep_top.specs.Verdicts.{End, TaskVerdict, WorkVerdict}
+use Rattle.upkeep_top.specs.Runs.{IsRefusal, IsRefusedArgument, RanAsked, RunsBy, TellsBadArgument}
+use Rattle.upkeep_top.specs.Statements.{AnswersBy}
 use Rattle.upkeep_top.specs.Words.{RefusesWords}
 use Rattle.upkeep_top.specs.declared.task.Task.{Task}
-use Rattle.upkeep_top.specs.declared.task.Work.{Work}
-use Rattle.upkeep_top.specs.declared.task.Work.TheVariants.{Move, List as Listing}
-use Rattle.upkeep_top.proofs.StopLaws.{told_any}
+use Rattle.upkeep_top.proofs.SuccessorLaws.{among}
 
 -- Statuses of words.
 
-abbrev is_statement : Status → Bool
-is_statement (BadStatement word at) = true
-is_statement status = false
+-- a status that words have
+abbrev is_of_words : Status → Bool
+is_of_words (BadStatement word at) = true
+is_of_words (BadArgument word name) = true
+is_of_words status = false
 
-abbrev is_argument : Status → Bool
-is_argument (BadArgument word name) = true
-is_argument status = false
+read_plain : (e : ReadErr) → is_of_words (read_status e) ≡ false
+read_plain (reads.Missing place) = refl
+read_plain (reads.Damaged place at) = refl
+read_plain (reads.Unsupported place what) = refl
+read_plain (reads.StoreFault place) = refl
+read_plain reads.Memory = refl
 
--- a statement's end is none of them, but for a refused argument
-module _ (word : ℕ) where
-  refusal_no_statement : (refusal : Refusal) → is_statement (status_of word (Attempt (attempts.Refused refusal))) ≡ false
-  refusal_no_statement (refusals.UnknownSnapshot id) = refl
-  refusal_no_statement (refusals.UnknownRef name) = refl
-  refusal_no_statement (refusals.NotAncestor id of) = refl
-  refusal_no_statement (refusals.StillReferenced id name) = refl
-  refusal_no_statement refusals.GcDisabled = refl
-  refusal_no_statement (refusals.TooRecent older limit) = refl
-  refusal_no_statement (refusals.OutsidePrefix path) = refl
-  refusal_no_statement (refusals.UnreadableDelete place) = refl
-  refusal_no_statement refusals.SamePrefix = refl
-  refusal_no_statement (refusals.UnknownVersion name) = refl
-  refusal_no_statement (refusals.BadArgument name) = refl
+-- only a refused argument is told so
+abbrev IsPlainOr : ℕ → CommitErr → Type 0
+IsPlainOr word e = (is_of_words (status_of word e) ≡ false) ⊎ ((name : List ℕ) × (e ≡ Attempt (attempts.Refused (refusals.BadArgument name))))
 
-  error_no_statement : (e : CommitErr) → is_statement (status_of word e) ≡ false
-  error_no_statement (Open (opens.NoTable place)) = refl
-  error_no_statement (Open (opens.LocationDiffers place location)) = refl
-  error_no_statement (Open (opens.Read (Missing place))) = refl
-  error_no_statement (Open (opens.Read (Damaged place at))) = refl
-  error_no_statement (Open (opens.Read (Unsupported place what))) = refl
-  error_no_statement (Open (opens.Read (Fault place))) = refl
-  error_no_statement (Open (opens.Read Memory)) = refl
-  error_no_statement (Attempt (attempts.Refused refusal)) = refusal_no_statement refusal
-  error_no_statement (Attempt (attempts.Conflict place other)) = refl
-  error_no_statement (Attempt (attempts.NameTaken place)) = refl
-  error_no_statement (Attempt (attempts.Read (Missing place))) = refl
-  error_no_statement (Attempt (attempts.Read (Damaged place at))) = refl
-  error_no_statement (Attempt (attempts.Read (Unsupported place what))) = refl
-  error_no_statement (Attempt (attempts.Read (Fault place))) = refl
-  error_no_statement (Attempt (attempts.Read Memory)) = refl
-  error_no_statement (Contended v) = refl
-  error_no_statement (CommitUnknown v) = refl
+refusal_of : (word : ℕ) (refusal : Refusal) → IsPlainOr word (Attempt (attempts.Refused refusal))
+refusal_of word (refusals.UnknownSnapshot id) = inl refl
+refusal_of word (refusals.UnknownRef name) = inl refl
+refusal_of word (refusals.NotAncestor id of) = inl refl
+refusal_of word (refusals.StillReferenced id name) = inl refl
+refusal_of word refusals.GcDisabled = inl refl
+refusal_of word (refusals.TooRecent older limit) = inl refl
+refusal_of word (refusals.OutsidePrefix path) = inl refl
+refusal_of word (refusals.UnreadableDelete place) = inl refl
+refusal_of word refusals.SamePrefix = inl refl
+refusal_of word (refusals.UnknownVersion name) = inl refl
+refusal_of word (refusals.BadArgument name) = inr (name, refl)
 
-  end_no_statement : (end : End) (status : Status) → AnswersBy word end status → is_statement status ≡ false
-  end_no_statement (Ok c) status (inl done) = ap is_statement done
-  end_no_statement (Ok c) status (inr (inl fault)) = ap is_statement fault
-  end_no_statement (Ok c) status (inr (inr memory)) = ap is_statement memory
-  end_no_statement (Err e) status is = ap is_statement is ∙ error_no_statement e
+plain_or : (word : ℕ) (e : CommitErr) → IsPlainOr word e
+plain_or word (Open (opens.NoTable place)) = inl refl
+plain_or word (Open (opens.LocationDiffers place location)) = inl refl
+plain_or word (Open (opens.Read e)) = inl (read_plain e)
+plain_or word (Attempt (attempts.Refused refusal)) = refusal_of word refusal
+plain_or word (Attempt (attempts.Conflict place other)) = inl refl
+plain_or word (Attempt (attempts.NameTaken place)) = inl refl
+plain_or word (Attempt (attempts.Read e)) = inl (read_plain e)
+plain_or word (Contended v) = inl refl
+plain_or word (CommitUnknown v) = inl refl
 
--- A refused argument of a statement.
+-- so of a statement's end
+abbrev EndsPlainOr : ℕ → Option CommitErr → Status → Type 0
+EndsPlainOr word error status = (is_of_words status ≡ false) ⊎ ((name : List ℕ) × (error ≡ Some (Attempt (attempts.Refused (refusals.BadArgument name)))) × (status ≡ BadArgument word name))
 
--- no aim refuses an argument
-module _ (name : List ℕ) where
-  if_ancestor : (snapshots : List Snapshot) (id of aim : ℤ) → AimsIfAncestor snapshots id of aim (Err (refusals.BadArgument name)) → ⊥
-  if_ancestor snapshots id of aim (inl e) = absurd (cc (e.0))
-  if_ancestor snapshots id of aim (inr e) = absurd (cc (e.0))
+by_error : (word : ℕ) (e : CommitErr) (status : Status) → status ≡ status_of word e → IsPlainOr word e → EndsPlainOr word (Some e) status
+by_error word e status is (inl plain) = inl (ap is_of_words is ∙ plain)
+by_error word e status is (inr a) = inr (a.0, ap (λ (x : CommitErr). Some x) a.1, is ∙ ap (status_of word) a.1)
 
-  back : (snapshots : List Snapshot) (id : ℤ) (s : Option Snapshot) (current : Option ℤ) → AimsBack snapshots id s current (Err (refusals.BadArgument name)) → ⊥
-  back snapshots id None current e = absurd (cc (e))
-  back snapshots id (Some s) None e = absurd (cc (e))
-  back snapshots id (Some s) (Some of) e = if_ancestor snapshots id of id e
-
-  at_snapshot : (id : ℤ) (s : Option Snapshot) → AimsAt id s (Err (refusals.BadArgument name)) → ⊥
-  at_snapshot id None e = absurd (cc (e))
-  at_snapshot id (Some s) e = absurd (cc (e))
-
-  to_ref : (snapshots : List Snapshot) (ref : List ℕ) (id : Option ℤ) → AimsTo snapshots ref id (Err (refusals.BadArgument name)) → ⊥
-  to_ref snapshots ref None e = absurd (cc (e))
-  to_ref snapshots ref (Some id) e = at_snapshot id (snapshot_with snapshots id) e
-
-  forward : (snapshots : List Snapshot) (branch to : List ℕ) (from aim : Option ℤ) → AimsForward snapshots branch to from aim (Err (refusals.BadArgument name)) → ⊥
-  forward snapshots branch to None aim e = absurd (cc (e))
-  forward snapshots branch to (Some from) None e = absurd (cc (e))
-  forward snapshots branch to (Some from) (Some aim) e = if_ancestor snapshots from aim aim e
-
-  no_aim : (goal : Goal) (tree : Data) → Aims goal tree (Err (refusals.BadArgument name)) → ⊥
-  no_aim (Rollback id) tree e = back (snapshots_of tree) id (snapshot_with (snapshots_of tree) id) (current_of tree) e
-  no_aim (SetCurrent id) tree e = at_snapshot id (snapshot_with (snapshots_of tree) id) e
-  no_aim (SetCurrentTo ref) tree e = to_ref (snapshots_of tree) ref (ref_at ref tree) e
-  no_aim (FastForward branch to) tree e = forward (snapshots_of tree) branch to (branch_at branch tree) (ref_at to tree) e
-
-  abbrev refused : End
-  refused = Err (Attempt (attempts.Refused (refusals.BadArgument name)))
-
-  no_cause : (work : Work) (now : ℕ) (Drawn : ℕ → Type 0) (table : Parts) (files : List Held) → WorkVerdict work now Drawn table files refused → ⊥
-  no_cause (Move goal) now Drawn table files v = no_aim goal v.tree v.holds
-  no_cause (Listing given) now Drawn table files v = absurd v.holds
-
-module _ (word : ℕ) (task : Task) (now : ℕ) (Drawn : ℕ → Type 0) (files : List Held) where
-  refusal_no_argument : (refusal : Refusal) → TaskVerdict task now Drawn files (Err (Attempt (attempts.Refused refusal))) → is_argument (status_of word (Attempt (attempts.Refused refusal))) ≡ false
-  refusal_no_argument (refusals.UnknownSnapshot id) v = refl
-  refusal_no_argument (refusals.UnknownRef name) v = refl
-  refusal_no_argument (refusals.NotAncestor id of) v = refl
-  refusal_no_argument (refusals.StillReferenced id name) v = refl
-  refusal_no_argument refusals.GcDisabled v = refl
-  refusal_no_argument (refusals.TooRecent older limit) v = refl
-  refusal_no_argument (refusals.OutsidePrefix path) v = refl
-  refusal_no_argument (refusals.UnreadableDelete place) v = refl
-  refusal_no_argument refusals.SamePrefix v = refl
-  refusal_no_argument (refusals.UnknownVersion name) v = refl
-  refusal_no_argument (refusals.BadArgument name) v = absurd (no_cause name task.work now Drawn task.table files v)
-
-  error_no_argument : (e : CommitErr) → TaskVerdict task now Drawn files (Err e) → is_argument (status_of word e) ≡ false
-  error_no_argument (Open (opens.NoTable place)) v = refl
-  error_no_argument (Open (opens.LocationDiffers place location)) v = refl
-  error_no_argument (Open (opens.Read (Missing place))) v = refl
-  error_no_argument (Open (opens.Read (Damaged place at))) v = refl
-  error_no_argument (Open (opens.Read (Unsupported place what))) v = refl
-  error_no_argument (Open (opens.Read (Fault place))) v = refl
-  error_no_argument (Open (opens.Read Memory)) v = refl
-  error_no_argument (Attempt (attempts.Refused refusal)) v = refusal_no_argument refusal v
-  error_no_argument (Attempt (attempts.Conflict place other)) v = refl
-  error_no_argument (Attempt (attempts.NameTaken place)) v = refl
-  error_no_argument (Attempt (attempts.Read (Missing place))) v = refl
-  error_no_argument (Attempt (attempts.Read (Damaged place at))) v = refl
-  error_no_argument (Attempt (attempts.Read (Unsupported place what))) v = refl
-  error_no_argument (Attempt (attempts.Read (Fault place))) v = refl
-  error_no_argument (Attempt (attempts.Read Memory)) v = refl
-  error_no_argument (Contended v) w = refl
-  error_no_argument (CommitUnknown v) w = refl
-
-  end_no_argument : (end : End) (status : Status) → AnswersBy word end status → TaskVerdict task now Drawn files end → is_argument status ≡ false
-  end_no_argument (Ok c) status (inl done) v = ap is_argument done
-  end_no_argument (Ok c) status (inr (inl fault)) v = ap is_argument fault
-  end_no_argument (Ok c) status (inr (inr memory)) v = ap is_argument memory
-  end_no_argument (Err e) status is v = ap is_argument is ∙ error_no_argument e v
+ends_plain_or : (word : ℕ) (error : Option CommitErr) (status : Status) → AnswersBy word error status → EndsPlainOr word error status
+ends_plain_or word None status (inl done) = inl (ap is_of_words done)
+ends_plain_or word None status (inr (inl output)) = inl (ap is_of_words output)
+ends_plain_or word None status (inr (inr memory)) = inl (ap is_of_words memory)
+ends_plain_or word (Some e) status is = by_error word e status is (plain_or word e)
 
 -- Of a run.
 
@@ -172,18 +82,34 @@ module _ (words : List (List ℕ)) (status : Status) (p q : Point) where
   of_words (inl r) not = r
   of_words (inr m) not = absurd (not m)
 
+  no_statement : (r : RanAsked words status p q) (word at : ℕ) → status ≡ BadStatement word at → EndsPlainOr r.ended.task.word r.ended.ends.end.error status → RefusesWords words status
+  no_statement r word at is (inl plain) = absurd (cc (ap is_of_words is, plain))
+  no_statement r word at is (inr a) = absurd (cc (is, a.2))
+
   pub bad_statement : RunsBy words status p q → (word at : ℕ) → status ≡ BadStatement word at → RefusesWords words status
   bad_statement (inl r) word at is = of_words r.0 (λ m. absurd (cc (m, is)))
-  bad_statement (inr r) word at is = absurd (cc (ap is_statement is, end_no_statement r.ended.task.word r.ended.ends.end status r.ended.ends.answers))
+  bad_statement (inr r) word at is = no_statement r word at is (ends_plain_or r.ended.task.word r.ended.ends.end.error status r.ended.ends.answers)
 
-  refused_at : IsRefusal words status → Since p.past p.past (TellsBadArgument words status)
-  refused_at r = since_start p.past Anything (TellsBadArgument words status) (told_any p.past) (λ old any word name is. of_words r (λ m. absurd (cc (m, is))))
+  argument : (r : RanAsked words status p q) (word : ℕ) (name : List ℕ) → status ≡ BadArgument word name → EndsPlainOr r.ended.task.word r.ended.ends.end.error status → IsRefusedArgument words word name
+  argument r word name is (inl plain) = absurd (cc (ap is_of_words is, plain))
+  argument r word name is (inr a) =
+      let e = r.ended in
+      let both : BadArgument word name ≡ BadArgument e.task.word a.0 = sym is ∙ a.2 in
+      let same_word : word ≡ e.task.word = cc (both) in
+      let same_name : a.0 ≡ name = cc (both) in
+      let refused = e.ends.refused (refusals.BadArgument name) (a.1 ∙ ap (λ (n : List ℕ). Some (Attempt (attempts.Refused (refusals.BadArgument n)))) same_name) in
+      record {
+        table = r.table;
+        tasks = r.tasks;
+        ask = r.ask;
+        task = e.task;
+        among = subst (λ (l : List Task). Contains l e.task) (sym e.is) (among e.before e.task e.after);
+        word_is = same_word;
+        now = e.ends.now;
+        tree = refused.0;
+        refuses = refused.1;
+      }
 
-  pub bad_argument : RunsBy words status p q → ((tasks : List Task) (a b : Point) → Leads IsDone tasks a b → Since a.past b.past (λ old new. Anything new)) → Since p.past q.past (TellsBadArgument words status)
-  bad_argument (inl r) on = subst (λ (x : Point). Since p.past x.past (TellsBadArgument words status)) (sym r.1) (refused_at r.0)
-  bad_argument (inr r) on =
-      let e = r.ended.ends in
-      let from = r.ended.from in
-      let Ended : Past → Past → Type 0 = Did r.ended.task e.now (Gives from.identifiers q.identifiers) e.end status from.output q.output in
-      since_then p.past from.past q.past (λ old new. Anything new) Ended (TellsBadArgument words status) (on r.ended.before p from r.ended.led) e.did
-      (λ old mid new any d word name is. absurd (cc (ap is_argument is, end_no_argument r.ended.task.word r.ended.task e.now (Gives from.identifiers q.identifiers) (replay mid).files e.end status e.answers d.cause)))
+  pub bad_argument : RunsBy words status p q → TellsBadArgument words status
+  bad_argument (inl r) = λ word name is. inl (of_words r.0 (λ m. absurd (cc (m, is))))
+  bad_argument (inr r) = λ word name is. inr (argument r word name is (ends_plain_or r.ended.task.word r.ended.ends.end.error status r.ended.ends.answers))

@@ -1,37 +1,38 @@
 -- What every stop of a run leaves.
 use Rattle.std.proofs.Common.{◌≡◌, inl, inr, ℕ, List, [], ◌∷◌, ◌++◌, Option, Some, None, refl, sym, subst}
+use Rattle.ice_store.specs.Given.{Gives}
 use Rattle.ice_store.specs.Places.{Parts}
 use Rattle.ice_store.specs.Others.{WhereTold}
 use Rattle.ice_store.specs.Since.{Since}
 use Rattle.ice_store.proofs.SinceLaws.{since_turned, since_then, since_start}
 use Rattle.ice_store.specs.declared.history.Past.{Past}
-use Rattle.commit_history.proofs.Numbering.{numbering}
-use Rattle.commit_history.proofs.Running.{ran_then, ran_turned, begins}
-use Rattle.commit_publish.specs.Stages.{Anything}
-use Rattle.commit_protocol.specs.Metadata.{metadata_local, metadata_rules}
+use Rattle.commit_history.proofs.Running.{ran_then}
+use Rattle.commit_publish.specs.Steps.{Anything}
+use Rattle.commit_protocol.specs.Metadata.{metadata_rules}
 use Rattle.run_answers.specs.declared.status.Status.{Status}
 use Rattle.run_answers.specs.declared.status.Status.TheVariants.{Done}
 use Rattle.upkeep_top.specs.Points.{Point}
 use Rattle.upkeep_top.specs.Chains.{Leads}
-use Rattle.upkeep_top.specs.Runs.{IsDone, Ended, RunsBy, IsSafeRun}
+use Rattle.upkeep_top.specs.Runs.{IsDone, Ended, RunsBy, RanAsked, AskOf, IsSafeRun}
 use Rattle.upkeep_top.specs.Statements.{Nobody, Any, IsSafeFor, Ends, Did}
 use Rattle.upkeep_top.specs.Words.{AreOf}
 use Rattle.upkeep_top.specs.declared.task.Task.{Task}
+use Rattle.upkeep_top.proofs.StepLaws.{safe_none}
 
 pub told_any : (o : Option Past) → WhereTold o Anything
 told_any None = tt
 told_any (Some past) = tt
 
--- a stretch in which nothing was done is safe
-pub safe_none : (table : Parts) (old : Past) → IsSafeFor table old old
-safe_none table old = ran_turned (metadata_rules table Nobody) (λ l. l ≡ []) Any Anything Anything old old (begins (metadata_rules table Nobody) (numbering table) (metadata_local table) Anything old tt) (λ l e. tt) (λ h. tt)
+-- what a statement did, where its history is told
+abbrev pub DidOf : (t : Task) (status : Status) (p q : Point) → Ends t status p q → Past → Past → Type 0
+DidOf t status p q e = Did t e.now (Gives p.identifiers q.identifiers) e.end q.halted p.left q.left
 
 safe_then : (table : Parts) (old mid new : Past) → IsSafeFor table old mid → IsSafeFor table mid new → IsSafeFor table old new
 safe_then table old mid new a b = ran_then (metadata_rules table Nobody) Any Any Any Anything Anything (λ l k m n. tt) old mid new a b
 
 module _ (table : Parts) where
   ends_safe : (t : Task) (status : Status) (p q : Point) → t.table ≡ table → Ends t status p q → Since p.past q.past (IsSafeFor table)
-  ends_safe t status p q of_table e = since_turned p.past q.past (Did t e.now _ e.end status p.output q.output) (IsSafeFor table) e.did (λ old now d. subst (λ (x : Parts). IsSafeFor x old now) of_table d.safe)
+  ends_safe t status p q of_table e = since_turned p.past q.past (DidOf t status p q e) (IsSafeFor table) e.did (λ old now d. subst (λ (x : Parts). IsSafeFor x old now) of_table d.safe)
 
   leads_safe : (ts : List Task) (p q : Point) → AreOf table ts → Leads IsDone ts p q → Since p.past q.past (IsSafeFor table)
   leads_safe [] p q of_table h = subst (λ (x : Point). Since p.past x.past (IsSafeFor table)) (sym h) (since_start p.past Anything (IsSafeFor table) (told_any p.past) (λ old any. safe_none table old))
@@ -49,3 +50,13 @@ module _ (table : Parts) where
 pub safe_run : (words : List (List ℕ)) (status : Status) (p q : Point) → RunsBy words status p q → Since p.past q.past (IsSafeRun words)
 safe_run words status p q (inl r) = subst (λ (x : Point). Since p.past x.past (IsSafeRun words)) (sym r.1) (since_start p.past Anything (IsSafeRun words) (told_any p.past) (λ old any. inl refl))
 safe_run words status p q (inr r) = since_turned p.past q.past (IsSafeFor r.table) (IsSafeRun words) (ended_safe r.table r.tasks status p q r.ask.of_table r.ended) (λ old now safe. inr (r.table, (r.tasks, r.ask), safe))
+
+-- Of a run that was asked.
+
+module _ (words : List (List ℕ)) (status : Status) (p q : Point) (r : RanAsked words status p q) where
+  pub asked_of : AskOf words r.table
+  asked_of = (r.tasks, r.ask)
+
+  -- its statements are of its table
+  pub tables_are : AreOf r.table r.ended.before × (r.ended.task.table ≡ r.table)
+  tables_are = front_of r.table r.ended.before r.ended.task r.ended.after (subst (λ (l : List Task). AreOf r.table l) r.ended.is r.ask.of_table)

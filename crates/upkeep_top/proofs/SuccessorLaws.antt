@@ -1,5 +1,6 @@
 -- Each version that a run tells of is a successor of the one before it.
-use Rattle.std.proofs.Common.{◌≡◌, inl, inr, ℕ, List, [], ◌∷◌, ◌++◌, Ok, Err, sym, ap, ◌∙◌, subst, append-nil, append_assoc}
+use Rattle.std.proofs.Common.{◌≡◌, inl, inr, ℕ, List, [], ◌∷◌, ◌++◌, Contains, refl, sym, ap, ◌∙◌, subst, arith, append-nil, append_assoc}
+use Rattle.std.proofs.lemmas.List.Elements.{Contains-append_left, Contains-append_right}
 use Rattle.ice_store.specs.Given.{Gives}
 use Rattle.ice_store.specs.Places.{Parts}
 use Rattle.ice_store.specs.History.{later}
@@ -9,20 +10,23 @@ use Rattle.ice_store.specs.Since.{Since}
 use Rattle.ice_store.proofs.SinceLaws.{since_turned, since_then, since_start}
 use Rattle.ice_store.specs.declared.history.Event.{Event}
 use Rattle.ice_store.specs.declared.history.Past.{Past}
-use Rattle.commit_publish.specs.Stages.{Anything}
-use Rattle.commit_protocol.specs.Written.{commits}
-use Rattle.commit_protocol.specs.declared.errors.Committed.TheVariants.{Same, Published}
+use Rattle.commit_publish.specs.Steps.{Anything}
+use Rattle.commit_protocol.specs.Promises.{Succession}
 use Rattle.run_answers.specs.declared.status.Status.{Status}
 use Rattle.run_answers.specs.declared.status.Status.TheVariants.{Done}
 use Rattle.upkeep_top.specs.Points.{Point}
 use Rattle.upkeep_top.specs.Chains.{Leads}
-use Rattle.upkeep_top.specs.Promises.{HasSucceeded}
-use Rattle.upkeep_top.specs.Runs.{IsDone, Ended, RunsBy, AskOf, PublishedBy, EachSucceeds}
-use Rattle.upkeep_top.specs.Statements.{Ends, Did}
-use Rattle.upkeep_top.specs.Verdicts.{End}
-use Rattle.upkeep_top.specs.Words.{AreOf}
+use Rattle.upkeep_top.specs.Promises.{AllSucceed}
+use Rattle.upkeep_top.specs.Runs.{IsDone, Ended, RunsBy, PublishedBy, EachSucceeds}
+use Rattle.upkeep_top.specs.Statements.{Ends}
+use Rattle.upkeep_top.specs.Verdicts.{meanings_of}
+use Rattle.upkeep_top.specs.Words.{AreOf, Ask}
 use Rattle.upkeep_top.specs.declared.task.Task.{Task}
-use Rattle.upkeep_top.proofs.StopLaws.{front_of, told_any}
+use Rattle.upkeep_top.proofs.StopLaws.{DidOf, front_of, told_any}
+
+-- a task among others
+pub among : (before : List Task) (t : Task) (after : List Task) → Contains (before ++ t ∷ after) t
+among before t after = let here : Contains (t ∷ after) t = (0, omega arith, refl) in Contains-append_right before (t ∷ after) t here
 
 abbrev pub Later : Past → Past → Type 0
 Later old now = (events : List Event) × (now ≡ later old events)
@@ -37,14 +41,17 @@ module _ (words : List (List ℕ)) where
   one_right : (v : ℕ) (old mid new : Past) → PublishedBy words v old mid → Later mid new → PublishedBy words v old new
   one_right v old mid new r e = record {
     table = r.table;
-    asked = r.asked;
+    tasks = r.tasks;
+    ask = r.ask;
     task = r.task;
-    of_table = r.of_table;
+    among = r.among;
     now = r.now;
     begun = r.begun;
     ended = r.ended;
     earlier = r.earlier;
     begun_is = r.begun_is;
+    events = r.events;
+    ended_is = r.ended_is;
     rest = r.rest ++ e.0;
     rest_is = e.1 ∙ ap (λ (p : Past). later p e.0) r.rest_is ∙ later-later r.ended r.rest e.0;
     succeeds = r.succeeds;
@@ -53,14 +60,17 @@ module _ (words : List (List ℕ)) where
   one_left : (v : ℕ) (old mid new : Past) → Later old mid → PublishedBy words v mid new → PublishedBy words v old new
   one_left v old mid new e r = record {
     table = r.table;
-    asked = r.asked;
+    tasks = r.tasks;
+    ask = r.ask;
     task = r.task;
-    of_table = r.of_table;
+    among = r.among;
     now = r.now;
     begun = r.begun;
     ended = r.ended;
     earlier = e.0 ++ r.earlier;
     begun_is = r.begun_is ∙ ap (λ (p : Past). later p r.earlier) e.1 ∙ later-later old e.0 r.earlier;
+    events = r.events;
+    ended_is = r.ended_is;
     rest = r.rest;
     rest_is = r.rest_is;
     succeeds = r.succeeds;
@@ -93,42 +103,61 @@ module _ (words : List (List ℕ)) where
     each = each_append a.versions b.versions old new (each_right a.versions old between new a.each b.then) (each_left b.versions old between new a.then b.each);
   }
 
-  module _ (table : Parts) (asked : AskOf words table) where
-    by_end : (t : Task) (now : ℕ) (end : End) (before after : List ℕ) (old new : Past) → t.table ≡ table → Later old new → after ≡ commits end before → HasSucceeded t now end old new → Added before after old new
-    by_end t now (Ok (Same v)) before after old new of_table then is done = record { then = then; versions = []; is = is ∙ sym (append-nil before); each = tt }
-    by_end t now (Ok (Published v)) before after old new of_table then is done = record {
-      then = then;
-      versions = v ∷ [];
-      is = is;
-      each = (record { table = table; asked = asked; task = t; of_table = of_table; now = now; begun = old; ended = new; earlier = []; begun_is = sym (later-nil old); rest = []; rest_is = sym (later-nil new); succeeds = done }, tt);
-    }
-    by_end t now (Err e) before after old new of_table then is done = record { then = then; versions = []; is = is ∙ sym (append-nil before); each = tt }
+  module _ (table : Parts) (tasks : List Task) (ask : Ask words table tasks) where
+    each_of : (t : Task) (now : ℕ) (vs : List ℕ) (old new : Past) → Contains tasks t → t.table ≡ table → Later old new → AllSucceed (meanings_of t now).change.successor t.table now vs old new → EachSucceeds words vs old new
+    each_of t now [] old new among of_table then all = tt
+    each_of t now (v ∷ vs) old new among of_table then all = (
+      record {
+        table = table;
+        tasks = tasks;
+        ask = ask;
+        task = t;
+        among = among;
+        now = now;
+        begun = old;
+        ended = new;
+        earlier = [];
+        begun_is = sym (later-nil old);
+        events = then.0;
+        ended_is = then.1;
+        rest = [];
+        rest_is = sym (later-nil new);
+        succeeds = subst (λ (x : Parts). Succession (meanings_of t now).change.successor x now v old new) of_table all.0;
+      },
+      each_of t now vs old new among of_table then all.1,
+    )
 
-    ends_added : (t : Task) (status : Status) (p q : Point) → t.table ≡ table → Ends t status p q → Since p.past q.past (Added p.committed q.committed)
-    ends_added t status p q of_table e = since_turned p.past q.past (Did t e.now (Gives p.identifiers q.identifiers) e.end status p.output q.output) (Added p.committed q.committed) e.did
-        (λ old now d. by_end t e.now e.end p.committed q.committed old now of_table (d.safe.events, d.safe.is) e.committed d.succeeded)
+    ends_added : (t : Task) (status : Status) (p q : Point) → Contains tasks t → t.table ≡ table → Ends t status p q → Since p.past q.past (Added p.committed q.committed)
+    ends_added t status p q among of_table e = since_turned p.past q.past (DidOf t status p q e) (Added p.committed q.committed) e.did
+        (λ old now d. record {
+        then = (d.safe.events, d.safe.is);
+        versions = e.end.versions;
+        is = e.committed;
+        each = each_of t e.now e.end.versions old now among of_table (d.safe.events, d.safe.is) d.succeed;
+      })
 
     none_added : (committed : List ℕ) (old : Past) → Added committed committed old old
     none_added committed old = record { then = later_none old; versions = []; is = sym (append-nil committed); each = tt }
 
-    leads_added : (ts : List Task) (p q : Point) → AreOf table ts → Leads IsDone ts p q → Since p.past q.past (Added p.committed q.committed)
-    leads_added [] p q of_table h =
+    leads_added : (ts : List Task) (p q : Point) → ((t : Task) → Contains ts t → Contains tasks t) → AreOf table ts → Leads IsDone ts p q → Since p.past q.past (Added p.committed q.committed)
+    leads_added [] p q within of_table h =
         subst (λ (x : Point). Since p.past x.past (Added p.committed x.committed)) (sym h)
         (since_start p.past Anything (Added p.committed p.committed) (told_any p.past) (λ old any. none_added p.committed old))
-    leads_added (t ∷ ts) p q of_table h =
+    leads_added (t ∷ ts) p q within of_table h =
         since_then p.past h.0.past q.past (Added p.committed h.0.committed) (Added h.0.committed q.committed) (Added p.committed q.committed)
-        (ends_added t Done p h.0 of_table.0 h.1) (leads_added ts h.0 q of_table.1 h.2) (added_then p.committed h.0.committed q.committed)
+        (ends_added t Done p h.0 (within t (among [] t ts)) of_table.0 h.1) (leads_added ts h.0 q (λ u c. within u (Contains-append_right (t ∷ []) ts u c)) of_table.1 h.2) (added_then p.committed h.0.committed q.committed)
 
-    ended_added : (tasks : List Task) (status : Status) (p q : Point) → AreOf table tasks → Ended tasks status p q → Since p.past q.past (Added p.committed q.committed)
-    ended_added tasks status p q of_table e =
-        let parts = front_of table e.before e.task e.after (subst (λ (l : List Task). AreOf table l) e.is of_table) in
+    ended_added : (status : Status) (p q : Point) → Ended tasks status p q → Since p.past q.past (Added p.committed q.committed)
+    ended_added status p q e =
+        let parts = front_of table e.before e.task e.after (subst (λ (l : List Task). AreOf table l) e.is ask.of_table) in
         since_then p.past e.from.past q.past (Added p.committed e.from.committed) (Added e.from.committed q.committed) (Added p.committed q.committed)
-        (leads_added e.before p e.from parts.0 e.led) (ends_added e.task status e.from q parts.1 e.ends) (added_then p.committed e.from.committed q.committed)
+        (leads_added e.before p e.from (λ t c. subst (λ (l : List Task). Contains l t) (sym e.is) (Contains-append_left e.before (e.task ∷ e.after) t c)) parts.0 e.led)
+        (ends_added e.task status e.from q (subst (λ (l : List Task). Contains l e.task) (sym e.is) (among e.before e.task e.after)) parts.1 e.ends) (added_then p.committed e.from.committed q.committed)
 
   pub each_succeeds : (status : Status) (p q : Point) → p.committed ≡ [] → RunsBy words status p q → Since p.past q.past (EachSucceeds words q.committed)
   each_succeeds status p q empty (inl r) =
       subst (λ (x : Point). Since p.past x.past (EachSucceeds words x.committed)) (sym r.1)
       (since_start p.past Anything (EachSucceeds words p.committed) (told_any p.past) (λ old any. subst (λ (vs : List ℕ). EachSucceeds words vs old old) (sym empty) tt))
   each_succeeds status p q empty (inr r) =
-      since_turned p.past q.past (Added p.committed q.committed) (EachSucceeds words q.committed) (ended_added r.table (r.tasks, r.ask) r.tasks status p q r.ask.of_table r.ended)
+      since_turned p.past q.past (Added p.committed q.committed) (EachSucceeds words q.committed) (ended_added r.table r.tasks r.ask status p q r.ended)
       (λ old now a. subst (λ (vs : List ℕ). EachSucceeds words vs old now) (sym (a.is ∙ ap (λ (l : List ℕ). l ++ a.versions) empty)) a.each)

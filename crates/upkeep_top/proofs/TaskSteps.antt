@@ -1,22 +1,26 @@
 -- Statements are run one by one: what the loop over them keeps.
-use Rattle.std.proofs.Common.{◌≡◌, inl, inr, ℕ, ◌+◌, ◌<◌, ◌≤◌, true, false, List, [], ◌∷◌, ◌++◌, length, take, drop, get_or, Option, suc, refl, sym, ap, ◌∙◌, subst, arith}
+use Rattle.std.proofs.Common.{◌≡◌, inl, inr, ℕ, ◌+◌, ◌<◌, ◌≤◌, true, false, List, [], ◌∷◌, ◌++◌, length, take, drop, get_or, Option, Some, None, suc, refl, sym, ap, ◌∙◌, subst, arith}
 use Rattle.std.proofs.Math.Seq.{split_at, take-suc, take-length}
 use Rattle.ice_store.specs.History.{replay}
+use Rattle.ice_store.specs.Given.{Gives}
 use Rattle.ice_store.specs.Others.{WhereTold}
 use Rattle.ice_store.specs.Places.{Parts}
 use Rattle.ice_store.specs.declared.history.Past.{Past}
+use Rattle.ice_store.proofs.SinceLaws.{since_where}
+use Rattle.commit_protocol.specs.Kinds.{error_kind}
+use Rattle.commit_protocol.specs.declared.errors.CommitErr.{CommitErr}
 use Rattle.run_answers.specs.Messages.{is_done}
 use Rattle.run_answers.specs.declared.status.Status.{Status}
 use Rattle.run_answers.specs.declared.status.Status.TheVariants as statuses
 use Rattle.run_answers.specs.declared.status.Status.TheVariants.{Done}
 use Rattle.upkeep_top.specs.Chains.{Leads}
-use Rattle.upkeep_top.specs.Points.{Point, point}
+use Rattle.upkeep_top.specs.Points.{Notes, Objects, Point, Tells, at, moment}
 use Rattle.upkeep_top.specs.Runs.{Ended, IsDone, IsRefusal, Runs}
-use Rattle.upkeep_top.specs.Statements.{Ends}
+use Rattle.upkeep_top.specs.Statements.{AnswersBy, Did, Ends, RestsBy}
 use Rattle.upkeep_top.specs.Words.{Ask}
 use Rattle.upkeep_top.specs.declared.task.Task.{Task}
 use Rattle.upkeep_top.proofs.ChainLaws.{leads_on, last_of}
-use Rattle.upkeep_top.proofs.VersionLaws.{done_rests}
+use Rattle.upkeep_top.proofs.StatusLaws.{not_done}
 
 -- Only Done is done.
 
@@ -50,8 +54,13 @@ done_by (statuses.NameTaken place) e = absurd (cc (e))
 pub not_done_by : (status : Status) → is_done status ≡ false → status ≡ Done → ⊥
 not_done_by status e d = absurd (cc (e, ap is_done d))
 
+-- a statement that is Done leaves no name change pending
+rests_by : (word : ℕ) (error : Option CommitErr) (status : Status) (past : Past) → AnswersBy word error status → status ≡ Done → RestsBy (error_kind error) past → (replay past).pending ≡ []
+rests_by word None status past answers d rests = rests
+rests_by word (Some e) status past answers d rests = absurd (not_done word e status answers d)
+
 pub rests_when : (t : Task) (status : Status) (p q : Point) → Ends t status p q → status ≡ Done → WhereTold q.past (λ past. (replay past).pending ≡ [])
-rests_when t status p q e d = done_rests t p q (subst (λ (s : Status). Ends t s p q) d e)
+rests_when t status p q e d = since_where p.past q.past (Did t e.now (Gives p.identifiers q.identifiers) e.end q.halted p.left q.left) (λ past. (replay past).pending ≡ []) e.did (λ old now did. rests_by t.word e.end.error status now e.answers d did.rests)
 
 -- Behind the statements that are done.
 
@@ -82,19 +91,16 @@ all_done tasks first more is i past_end within o q led =
 
 -- Moments whose values agree.
 
-pub same_points : {past past' : Option Past} {faults faults' : ℕ} {halted halted' : Option ℕ} {moments moments' : Option (List ℕ)} {identifiers identifiers' : Option (List ℕ)} {output output' : Option (List ℕ)} {output_faults output_faults' : ℕ} {committed committed' : List ℕ} {left left' : List Parts}
-    → past ≡ past' → faults ≡ faults' → halted ≡ halted' → moments ≡ moments' → identifiers ≡ identifiers' → output ≡ output' → output_faults ≡ output_faults' → committed ≡ committed' → left ≡ left'
-    → point past faults halted moments identifiers output output_faults committed left ≡ point past' faults' halted' moments' identifiers' output' output_faults' committed' left'
-same_points {past = p} {past' = p'} {faults = f} {faults' = f'} {halted = h} {halted' = h'} {moments = m} {moments' = m'} {identifiers = i} {identifiers' = i'} {output = o} {output' = o'} {output_faults = e} {output_faults' = e'} {committed = c} {committed' = c'} {left = l} {left' = l'} a b d g j k n q r =
-    ap (λ (x : Option Past). point x f h m i o e c l) a
-    ∙ ap (λ (x : ℕ). point p' x h m i o e c l) b
-    ∙ ap (λ (x : Option ℕ). point p' f' x m i o e c l) d
-    ∙ ap (λ (x : Option (List ℕ)). point p' f' h' x i o e c l) g
-    ∙ ap (λ (x : Option (List ℕ)). point p' f' h' m' x o e c l) j
-    ∙ ap (λ (x : Option (List ℕ)). point p' f' h' m' i' x e c l) k
-    ∙ ap (λ (x : ℕ). point p' f' h' m' i' o' x c l) n
-    ∙ ap (λ (x : List ℕ). point p' f' h' m' i' o' e' x l) q
-    ∙ ap (λ (x : List Parts). point p' f' h' m' i' o' e' c' x) r
+abbrev pub notes_of : List ℕ → List Parts → Notes
+notes_of committed left = record { committed = committed; left = left }
+
+pub same_notes : {committed committed' : List ℕ} {left left' : List Parts} → committed ≡ committed' → left ≡ left' → notes_of committed left ≡ notes_of committed' left'
+same_notes {committed = c} {committed' = c'} {left = l} {left' = l'} a b = ap (λ (x : List ℕ). notes_of x l) a ∙ ap (λ (x : List Parts). notes_of c' x) b
+
+module _ {S C I O : Type 0} (t : Tells S C I O) where
+  pub same_moment : {store store' : S} {clock clock' : C} {ids ids' : I} {out out' : O} {notes notes' : Notes} → store ≡ store' → clock ≡ clock' → ids ≡ ids' → out ≡ out' → notes ≡ notes' → moment t (at store clock ids out) notes ≡ moment t (at store' clock' ids' out') notes'
+  same_moment {store = s} {store' = s'} {clock = c} {clock' = c'} {ids = i} {ids' = i'} {out = o} {out' = o'} {notes = n} {notes' = n'} a b d e f =
+      ap (λ (x : S). moment t (at x c i o) n) a ∙ ap (λ (x : C). moment t (at s' x i o) n) b ∙ ap (λ (x : I). moment t (at s' c' x o) n) d ∙ ap (λ (x : O). moment t (at s' c' i' x) n) e ∙ ap (λ (x : Notes). moment t (at s' c' i' o') x) f
 
 pub asked_run : (words : List (List ℕ)) (table : Parts) (tasks given : List Task) → given ≡ tasks → Ask words table tasks → (status status' : Status) → status ≡ status' → (p p' q q' : Point) → p' ≡ p → q ≡ q'
     → ((first : Task) (more : List Task) → given ≡ first ∷ more → Ended given status' p' q') → Runs words status p q

@@ -1,239 +1,187 @@
--- Which versions a run tells of, what they are successors of, and what it leaves.
-use Rattle.std.proofs.Common.{◌≡◌, ◌⊎◌, inl, inr, ℕ, Bool, true, false, List, [], ◌∷◌, ◌++◌, Ok, Err, refl, sym, ap, ◌∙◌, subst, append-nil, append_assoc}
+-- To which versions the steps of work rename files, and which of them have a sync behind.
+use Rattle.std.proofs.Common.{◌≡◌, ◌⊎◌, inl, inr, ℕ, zero, suc, ◌+◌, ◌<◌, ◌≤◌, ◌^◌, false, true, List, [], ◌∷◌, ◌++◌, take, refl, sym, ap, ◌∙◌, subst, arith, append-nil, append_assoc}
+use Rattle.serde_json.specs.Data.{Data}
 use Rattle.ice_store.specs.Places.{Parts}
-use Rattle.ice_store.specs.Given.{Gives}
-use Rattle.ice_store.specs.Others.{WhereTold}
-use Rattle.ice_store.specs.History.{replay}
-use Rattle.ice_store.specs.Since.{Since}
-use Rattle.ice_store.proofs.SinceLaws.{since_turned, since_then, since_start, since_where}
-use Rattle.ice_store.specs.declared.history.Past.{Past}
-use Rattle.ice_store.specs.declared.faults.ReadErr.TheVariants.{Missing, Damaged, Unsupported, StoreFault as Fault, Memory}
-use Rattle.commit_history.specs.Versions.{number_in}
-use Rattle.commit_publish.specs.Stages.{Anything}
-use Rattle.commit_versions.specs.declared.types.OpenErr.TheVariants as opens
-use Rattle.commit_protocol.specs.Written.{CommitLeft, commits}
-use Rattle.commit_protocol.specs.declared.errors.Refusal.{Refusal}
-use Rattle.commit_protocol.specs.declared.errors.Refusal.TheVariants as refusals
-use Rattle.commit_protocol.specs.declared.errors.AttemptErr.TheVariants as attempts
-use Rattle.commit_protocol.specs.declared.errors.CommitErr.{CommitErr}
-use Rattle.commit_protocol.specs.declared.errors.CommitErr.TheVariants.{Open, Attempt, Contended, CommitUnknown as Unknown}
-use Rattle.commit_protocol.specs.declared.errors.Committed.{Committed}
-use Rattle.commit_protocol.specs.declared.errors.Committed.TheVariants.{Same, Published}
-use Rattle.run_answers.specs.Answers.{status_of}
-use Rattle.run_answers.specs.Messages.{is_done}
-use Rattle.run_answers.specs.declared.status.Status.{Status}
-use Rattle.run_answers.specs.declared.status.Status.TheVariants.{Done, CommitUnknown, OutFault, OutOfMemory}
-use Rattle.upkeep_top.specs.Points.{Point}
-use Rattle.upkeep_top.specs.Chains.{Leads}
-use Rattle.upkeep_top.specs.Promises.{Publishes, VersionsBy}
-use Rattle.upkeep_top.specs.Runs.{IsDone, RunsBy, TellsBy, TellsVersions, MayLeave}
-use Rattle.upkeep_top.specs.Statements.{Ends, Did, AnswersBy, RestsBy}
-use Rattle.upkeep_top.specs.Verdicts.{End}
-use Rattle.upkeep_top.specs.Words.{AreOf}
-use Rattle.upkeep_top.specs.declared.task.Task.{Task}
-use Rattle.upkeep_top.proofs.StepLaws.{publishes_then, publishes_none}
-use Rattle.upkeep_top.proofs.StopLaws.{front_of, told_any}
+use Rattle.ice_store.specs.declared.history.Held.{Held}
+use Rattle.ice_store.specs.declared.history.Step.{Step}
+use Rattle.ice_store.specs.declared.history.Step.TheVariants.{Create, Append, Seal, Rename, Remove, SyncNames}
+use Rattle.ice_store.specs.declared.history.StoreCall.{StoreCall}
+use Rattle.ice_store.specs.declared.store.StoreErr.TheVariants.{Failed, Memory}
+use Rattle.commit_history.specs.Versions.{folder, number_in}
+use Rattle.commit_publish.specs.Kinds as kinds
+use Rattle.commit_publish.specs.Kinds.{Kind}
+use Rattle.commit_publish.specs.Steps.{IsTakenOf, StopsAt, step_of, steps_before, publish_plan, lost_plan}
+use Rattle.commit_publish.specs.declared.steps.PublishCall.{PublishCall}
+use Rattle.commit_publish.specs.declared.steps.PublishCall.TheVariants as asked
+use Rattle.commit_versions.specs.Names.{version_name}
+use Rattle.commit_versions.specs.Opening.{version_limit}
+use Rattle.commit_versions.proofs.NameLaws.{name_number-version}
+use Rattle.commit_versions.proofs.NumberLaws.{number_in-named}
+use Rattle.commit_protocol.specs.Ends.{Publish, TookBy, draft_of, target_of, number_of}
+use Rattle.commit_protocol.specs.Kinds.{is_renaming}
+use Rattle.commit_protocol.specs.Verdicts.{IsTable}
+use Rattle.commit_protocol.specs.Written.{version_at}
+use Rattle.upkeep_top.specs.Promises.{Renamed, ToldBy, all_settled, last_open, renamed_after, renamed_by, renamed_to}
 
--- A statement that is Done.
+-- the place of a version has its number
+pub version_number : (table : Parts) (last : ℕ) → last < version_limit → number_in table (version_at table (last + 1)) ≡ last + 1
+version_number table last below =
+    number_in-named table (table ++ folder ∷ []) (version_at table (last + 1)) (version_name (last + 1)) refl (sym (append_assoc table (folder ∷ []) (version_name (last + 1) ∷ [])))
+    ∙ name_number-version (last + 1) (omega arith) (omega (arith, below))
 
-refusal_not_done : (word : ℕ) (refusal : Refusal) → is_done (status_of word (Attempt (attempts.Refused refusal))) ≡ false
-refusal_not_done word (refusals.UnknownSnapshot id) = refl
-refusal_not_done word (refusals.UnknownRef name) = refl
-refusal_not_done word (refusals.NotAncestor id of) = refl
-refusal_not_done word (refusals.StillReferenced id name) = refl
-refusal_not_done word refusals.GcDisabled = refl
-refusal_not_done word (refusals.TooRecent older limit) = refl
-refusal_not_done word (refusals.OutsidePrefix path) = refl
-refusal_not_done word (refusals.UnreadableDelete place) = refl
-refusal_not_done word refusals.SamePrefix = refl
-refusal_not_done word (refusals.UnknownVersion name) = refl
-refusal_not_done word (refusals.BadArgument name) = refl
+-- Steps one after another.
 
-not_done : (word : ℕ) (e : CommitErr) → is_done (status_of word e) ≡ false
-not_done word (Open (opens.NoTable place)) = refl
-not_done word (Open (opens.LocationDiffers place location)) = refl
-not_done word (Open (opens.Read (Missing place))) = refl
-not_done word (Open (opens.Read (Damaged place at))) = refl
-not_done word (Open (opens.Read (Unsupported place what))) = refl
-not_done word (Open (opens.Read (Fault place))) = refl
-not_done word (Open (opens.Read Memory)) = refl
-not_done word (Attempt (attempts.Refused refusal)) = refusal_not_done word refusal
-not_done word (Attempt (attempts.Conflict place other)) = refl
-not_done word (Attempt (attempts.NameTaken place)) = refl
-not_done word (Attempt (attempts.Read (Missing place))) = refl
-not_done word (Attempt (attempts.Read (Damaged place at))) = refl
-not_done word (Attempt (attempts.Read (Unsupported place what))) = refl
-not_done word (Attempt (attempts.Read (Fault place))) = refl
-not_done word (Attempt (attempts.Read Memory)) = refl
-not_done word (Contended v) = refl
-not_done word (Unknown v) = refl
+pub renamed_append : (number : Parts → ℕ) (r : Renamed) (steps more : List Step) → renamed_by number r (steps ++ more) ≡ renamed_by number (renamed_by number r steps) more
+renamed_append number r [] more = refl
+renamed_append number r (step ∷ steps) more = renamed_append number (renamed_after number r step) steps more
 
-pub not_done_is : (word : ℕ) (e : CommitErr) (status : Status) → status ≡ status_of word e → status ≡ Done → ⊥
-not_done_is word e status is done = absurd (cc (ap is_done (sym done ∙ is), not_done word e))
+-- Steps of one publish.
 
-abbrev pub is_output : Status → Bool
-is_output OutFault = true
-is_output status = false
+module _ (number : Parts → ℕ) (draft target : Parts) (bytes : List ℕ) (versions : List ℕ) where
+  abbrev pub behind : List Step → Renamed
+  behind steps = renamed_by number (all_settled versions) steps
 
-refusal_no_output : (word : ℕ) (refusal : Refusal) → is_output (status_of word (Attempt (attempts.Refused refusal))) ≡ false
-refusal_no_output word (refusals.UnknownSnapshot id) = refl
-refusal_no_output word (refusals.UnknownRef name) = refl
-refusal_no_output word (refusals.NotAncestor id of) = refl
-refusal_no_output word (refusals.StillReferenced id name) = refl
-refusal_no_output word refusals.GcDisabled = refl
-refusal_no_output word (refusals.TooRecent older limit) = refl
-refusal_no_output word (refusals.OutsidePrefix path) = refl
-refusal_no_output word (refusals.UnreadableDelete place) = refl
-refusal_no_output word refusals.SamePrefix = refl
-refusal_no_output word (refusals.UnknownVersion name) = refl
-refusal_no_output word (refusals.BadArgument name) = refl
+  once : versions ++ [] ≡ versions
+  once = append-nil versions
 
-no_output : (word : ℕ) (e : CommitErr) → is_output (status_of word e) ≡ false
-no_output word (Open (opens.NoTable place)) = refl
-no_output word (Open (opens.LocationDiffers place location)) = refl
-no_output word (Open (opens.Read (Missing place))) = refl
-no_output word (Open (opens.Read (Damaged place at))) = refl
-no_output word (Open (opens.Read (Unsupported place what))) = refl
-no_output word (Open (opens.Read (Fault place))) = refl
-no_output word (Open (opens.Read Memory)) = refl
-no_output word (Attempt (attempts.Refused refusal)) = refusal_no_output word refusal
-no_output word (Attempt (attempts.Conflict place other)) = refl
-no_output word (Attempt (attempts.NameTaken place)) = refl
-no_output word (Attempt (attempts.Read (Missing place))) = refl
-no_output word (Attempt (attempts.Read (Damaged place at))) = refl
-no_output word (Attempt (attempts.Read (Unsupported place what))) = refl
-no_output word (Attempt (attempts.Read (Fault place))) = refl
-no_output word (Attempt (attempts.Read Memory)) = refl
-no_output word (Contended v) = refl
-no_output word (Unknown v) = refl
+  twice : (versions ++ []) ++ [] ≡ versions
+  twice = append-nil (versions ++ []) ∙ once
 
-pub no_output_is : (word : ℕ) (e : CommitErr) (status : Status) → status ≡ status_of word e → status ≡ OutFault → ⊥
-no_output_is word e status is output = absurd (cc (ap is_output (sym output ∙ is), no_output word e))
+  -- one that met a taken target
+  pub lost_behind : behind (lost_plan draft bytes) ≡ all_settled versions
+  lost_behind = ap all_settled twice
 
--- its work is done
-pub done_is : (word : ℕ) (end : End) → AnswersBy word end Done → (c : Committed) × (end ≡ Ok c)
-done_is word (Ok c) e = (c, refl)
-done_is word (Err e) s = absurd (cc (ap is_done s, not_done word e))
+  -- a call that isn't one of the renaming failed
+  pub failed_behind : (call : PublishCall) (taken : List Step) → is_renaming call ≡ false → IsTakenOf (step_of draft target bytes call) taken → behind (steps_before draft target bytes call ++ taken) ≡ all_settled versions
+  failed_behind asked.Create taken other (inl e) = ap behind e
+  failed_behind asked.Create taken other (inr e) = ap behind e
+  failed_behind asked.Append taken other (inl e) = ap (λ (l : List Step). behind (Create draft ∷ l)) e
+  failed_behind asked.Append taken other (inr e) = ap (λ (l : List Step). behind (Create draft ∷ l)) e.1
+  failed_behind asked.Seal taken other (inl e) = ap (λ (l : List Step). behind (steps_before draft target bytes asked.Seal ++ l)) e
+  failed_behind asked.Seal taken other (inr e) = ap (λ (l : List Step). behind (steps_before draft target bytes asked.Seal ++ l)) e
+  failed_behind asked.SyncDraft taken other (inl e) = ap (λ (l : List Step). behind (steps_before draft target bytes asked.SyncDraft ++ l)) e
+  failed_behind asked.SyncDraft taken other (inr e) = ap (λ (l : List Step). behind (steps_before draft target bytes asked.SyncDraft ++ l)) e ∙ ap all_settled once
+  failed_behind asked.Rename taken other e = absurd (cc (other))
+  failed_behind asked.SyncRename taken other e = absurd (cc (other))
+  failed_behind asked.Remove taken other (inl e) = ap (λ (l : List Step). behind (steps_before draft target bytes asked.Remove ++ l)) e ∙ ap all_settled once
+  failed_behind asked.Remove taken other (inr e) = ap (λ (l : List Step). behind (steps_before draft target bytes asked.Remove ++ l)) e ∙ ap all_settled once
+  failed_behind asked.SyncRemoval taken other (inl e) = ap (λ (l : List Step). behind (steps_before draft target bytes asked.SyncRemoval ++ l)) e ∙ ap all_settled once
+  failed_behind asked.SyncRemoval taken other (inr e) = ap (λ (l : List Step). behind (steps_before draft target bytes asked.SyncRemoval ++ l)) e ∙ ap all_settled twice
 
-rests_by : (end : End) (c : Committed) (past : Past) → end ≡ Ok c → RestsBy end past → (replay past).pending ≡ []
-rests_by end c past is rests = subst (λ (x : End). RestsBy x past) is rests
+  module _ (version : ℕ) (is : number target ≡ suc version) where
+    -- behind the draft's sync, and its rename
+    renamed : List ℕ → ℕ → Renamed
+    renamed vs n = renamed_to n (record { settled = vs; open_ones = [] })
 
--- and nothing is pending
-pub done_rests : (t : Task) (p q : Point) → Ends t Done p q → WhereTold q.past (λ past. (replay past).pending ≡ [])
-done_rests t p q e =
-    let c = done_is t.word e.end e.answers in
-    since_where p.past q.past (Did t e.now (Gives p.identifiers q.identifiers) e.end Done p.output q.output) (λ past. (replay past).pending ≡ []) e.did (λ old now d. rests_by e.end c.0 now c.1 d.rests)
+    opened : renamed (versions ++ []) (number target) ≡ last_open versions (suc version)
+    unfolding renamed
+    opened = ap (renamed (versions ++ [])) is ∙ ap (λ (vs : List ℕ). last_open vs (suc version)) once
 
-left_by : (Drawn : ℕ → Type 0) (table : Parts) (end : End) (c : Committed) (old new : List Parts) → end ≡ Ok c → CommitLeft Drawn table end old new → new ≡ old
-left_by Drawn table end c old new is left = subst (λ (x : End). CommitLeft Drawn table x old new) is left
+    synced : renamed_after number (renamed (versions ++ []) (number target)) SyncNames ≡ all_settled (versions ++ suc version ∷ [])
+    unfolding renamed
+    synced = ap (λ (r : Renamed). renamed_after number r SyncNames) opened
 
--- and nothing is left
-pub leads_left : (ts : List Task) (p q : Point) → Leads IsDone ts p q → q.left ≡ p.left
-leads_left [] p q h = ap (λ (x : Point). x.left) h
-leads_left (t ∷ ts) p q h =
-    let e = h.1 in
-    let c = done_is t.word e.end e.answers in
-    leads_left ts h.0 q h.2 ∙ left_by (Gives p.identifiers h.0.identifiers) t.table e.end c.0 p.left h.0.left c.1 e.left
+    -- it ran to its end
+    pub plan_behind : behind (publish_plan draft target bytes) ≡ all_settled (versions ++ suc version ∷ [])
+    unfolding renamed
+    plan_behind = synced
 
--- Places that are left.
+    -- a call of the renaming failed
+    pub open_behind : (call : PublishCall) (taken : List Step) → is_renaming call ≡ true → IsTakenOf (step_of draft target bytes call) taken → ToldBy (kinds.Unknown (suc version)) versions (behind (steps_before draft target bytes call ++ taken))
+    unfolding renamed
+    open_behind asked.Create taken other e = absurd (cc (other))
+    open_behind asked.Append taken other e = absurd (cc (other))
+    open_behind asked.Seal taken other e = absurd (cc (other))
+    open_behind asked.SyncDraft taken other e = absurd (cc (other))
+    open_behind asked.Rename taken other (inl e) = inl (ap (λ (l : List Step). behind (steps_before draft target bytes asked.Rename ++ l)) e ∙ ap all_settled once)
+    open_behind asked.Rename taken other (inr e) = inr (inl (ap (λ (l : List Step). behind (steps_before draft target bytes asked.Rename ++ l)) e ∙ opened))
+    open_behind asked.SyncRename taken other (inl e) = inr (inl (ap (λ (l : List Step). behind (steps_before draft target bytes asked.SyncRename ++ l)) e ∙ opened))
+    open_behind asked.SyncRename taken other (inr e) = inr (inr (ap (λ (l : List Step). behind (steps_before draft target bytes asked.SyncRename ++ l)) e ∙ synced))
+    open_behind asked.Remove taken other e = absurd (cc (other))
+    open_behind asked.SyncRemoval taken other e = absurd (cc (other))
 
-left_none : (word : ℕ) (Drawn : ℕ → Type 0) (table : Parts) (end : End) (status : Status) (old new : List Parts) → AnswersBy word end status → (MayLeave status → ⊥) → CommitLeft Drawn table end old new → new ≡ old
-left_none word Drawn table (Ok c) status old new e none left = left
-left_none word Drawn table (Err (Open o)) status old new e none left = left
-left_none word Drawn table (Err (Attempt (attempts.Refused refusal))) status old new e none left = left
-left_none word Drawn table (Err (Attempt (attempts.Conflict place other))) status old new e none left = left
-left_none word Drawn table (Err (Attempt (attempts.NameTaken place))) status old new e none left = left
-left_none word Drawn table (Err (Attempt (attempts.Read (Missing place)))) status old new e none left = left
-left_none word Drawn table (Err (Attempt (attempts.Read (Damaged place at)))) status old new e none left = left
-left_none word Drawn table (Err (Attempt (attempts.Read (Unsupported place what)))) status old new e none left = left
-left_none word Drawn table (Err (Attempt (attempts.Read (Fault place)))) status old new e none left = absurd (none (inl (place, e)))
-left_none word Drawn table (Err (Attempt (attempts.Read Memory))) status old new e none left = absurd (none (inr (inr e)))
-left_none word Drawn table (Err (Contended v)) status old new e none left = left
-left_none word Drawn table (Err (Unknown v)) status old new e none left = absurd (none (inr (inl (v, e))))
+    -- memory lacked for a call
+    pub unmade_behind : (call : PublishCall) → ToldBy kinds.Memory versions (behind (steps_before draft target bytes call))
+    unfolding renamed
+    unmade_behind asked.Create = inl refl
+    unmade_behind asked.Append = inl refl
+    unmade_behind asked.Seal = inl refl
+    unmade_behind asked.SyncDraft = inl refl
+    unmade_behind asked.Rename = inl (ap all_settled once)
+    unmade_behind asked.SyncRename = inr (suc version, opened)
+    unmade_behind asked.Remove = inl (ap all_settled once)
+    unmade_behind asked.SyncRemoval = inl (ap all_settled once)
 
-pub nothing_left : (words : List (List ℕ)) (status : Status) (p q : Point) → RunsBy words status p q → (MayLeave status → ⊥) → q.left ≡ p.left
-nothing_left words status p q (inl r) none = ap (λ (x : Point). x.left) r.1
-nothing_left words status p q (inr r) none =
-    let e = r.ended.ends in
-    left_none r.ended.task.word (Gives r.ended.from.identifiers q.identifiers) r.ended.task.table e.end status r.ended.from.left q.left e.answers none e.left ∙ leads_left r.ended.before p r.ended.from r.ended.led
+-- Steps of work.
 
--- Versions that are told of.
+-- only work that is done tells versions
+abbrev pub IsTold : Kind → List ℕ → Type 0
+IsTold kind versions = (kind ≡ kinds.Done) ⊎ (versions ≡ [])
 
--- what a statement adds to them
-abbrev pub Adds : Status → List ℕ → List ℕ → List ℕ → Type 0
-Adds status old new versions = (new ≡ old ++ versions) ⊎ (((v : ℕ) × (status ≡ CommitUnknown v) × (versions ≡ v ∷ []) × (new ≡ old)) ⊎ ((v : ℕ) × (status ≡ OutOfMemory) × (versions ≡ v ∷ []) × (new ≡ old)))
+module _ (successor : Data → Data → Type 0) (Drawn : ℕ → Type 0) (table : Parts) (now : ℕ) (files : List Held) where
+  abbrev pub ThePublish : Type 0
+  ThePublish = Publish successor Drawn table now (IsTable table files)
 
-none_added : (status : Status) (old new versions : List ℕ) → new ≡ old → versions ≡ [] → Adds status old new versions
-none_added status old new versions same none = inl (same ∙ sym (append-nil old) ∙ ap (λ (l : List ℕ). old ++ l) (sym none))
+  abbrev pub the_draft : ThePublish → Parts
+  the_draft p = draft_of successor Drawn table now (IsTable table files) p
 
-added : (word : ℕ) (end : End) (status : Status) (old new versions : List ℕ) → AnswersBy word end status → new ≡ commits end old → VersionsBy end versions → Adds status old new versions
-added word (Ok (Same v)) status old new versions e is by = none_added status old new versions is by
-added word (Ok (Published v)) status old new versions e is by = inl (is ∙ ap (λ (l : List ℕ). old ++ l) (sym by))
-added word (Err (Open o)) status old new versions e is by = none_added status old new versions is by
-added word (Err (Attempt (attempts.Refused refusal))) status old new versions e is by = none_added status old new versions is by
-added word (Err (Attempt (attempts.Conflict place other))) status old new versions e is by = none_added status old new versions is by
-added word (Err (Attempt (attempts.NameTaken place))) status old new versions e is by = none_added status old new versions is by
-added word (Err (Attempt (attempts.Read (Missing place)))) status old new versions e is by = none_added status old new versions is by
-added word (Err (Attempt (attempts.Read (Damaged place at)))) status old new versions e is by = none_added status old new versions is by
-added word (Err (Attempt (attempts.Read (Unsupported place what)))) status old new versions e is by = none_added status old new versions is by
-added word (Err (Attempt (attempts.Read (Fault place)))) status old new versions e is by = none_added status old new versions is by
-added word (Err (Attempt (attempts.Read Memory))) status old new versions e is (inl none) = none_added status old new versions is none
-added word (Err (Attempt (attempts.Read Memory))) status old new versions e is (inr one) = inr (inr (one.0, e, one.1, is))
-added word (Err (Contended v)) status old new versions e is by = none_added status old new versions is by
-added word (Err (Unknown v)) status old new versions e is (inl none) = none_added status old new versions is none
-added word (Err (Unknown v)) status old new versions e is (inr one) = inr (inl (v, e, one, is))
+  abbrev pub the_target : ThePublish → Parts
+  the_target p = target_of successor Drawn table now (IsTable table files) p
 
-abbrev pub Told : Parts → Status → List ℕ → List ℕ → Past → Past → Type 0
-Told table status before after old now = (versions : List ℕ) × Publishes (number_in table) old now versions × Adds status before after versions
+  abbrev pub the_number : ThePublish → ℕ
+  the_number p = number_of successor Drawn table now (IsTable table files) p
 
-ends_told : (table : Parts) (t : Task) (status : Status) (p q : Point) → t.table ≡ table → Ends t status p q → Since p.past q.past (Told table status p.committed q.committed)
-ends_told table t status p q of_table e = since_turned p.past q.past (Did t e.now (Gives p.identifiers q.identifiers) e.end status p.output q.output) (Told table status p.committed q.committed) e.did
-    (λ old now d. (d.steps.0, subst (λ (x : Parts). Publishes (number_in x) old now d.steps.0) of_table d.steps.1, added t.word e.end status p.committed q.committed d.steps.0 e.answers e.committed d.steps.2))
+  abbrev pub Took : (StoreCall → Type 0) → Kind → List ℕ → List Step → List Parts → Type 0
+  Took = TookBy successor Drawn table now (IsTable table files)
 
--- of one that is Done
-done_adds : (old new versions : List ℕ) → Adds Done old new versions → new ≡ old ++ versions
-done_adds old new versions (inl is) = is
-done_adds old new versions (inr (inl a)) = absurd (cc (a.1))
-done_adds old new versions (inr (inr a)) = absurd (cc (a.1))
+  number_is : (p : ThePublish) → number_in table (the_target p) ≡ suc p.last
+  number_is p = version_number table p.last p.base.file.numbers.below ∙ (let e : p.last + 1 ≡ suc p.last = omega arith in e)
 
--- of several
-abbrev pub AllTold : Parts → List ℕ → List ℕ → Past → Past → Type 0
-AllTold table before after old now = (versions : List ℕ) × Publishes (number_in table) old now versions × (after ≡ before ++ versions)
+  as_suc : (p : ThePublish) → suc p.last ≡ the_number p
+  as_suc p = let e : suc p.last ≡ p.last + 1 = omega arith in e
 
-leads_told : (table : Parts) (ts : List Task) (p q : Point) → AreOf table ts → Leads IsDone ts p q → Since p.past q.past (AllTold table p.committed q.committed)
-leads_told table [] p q of_table h =
-    subst (λ (x : Point). Since p.past x.past (AllTold table p.committed x.committed)) (sym h)
-    (since_start p.past Anything (AllTold table p.committed p.committed) (told_any p.past) (λ old any. ([], publishes_none (number_in table) old old refl, sym (append-nil p.committed))))
-leads_told table (t ∷ ts) p q of_table h =
-    since_then p.past h.0.past q.past (Told table Done p.committed h.0.committed) (AllTold table h.0.committed q.committed) (AllTold table p.committed q.committed)
-    (ends_told table t Done p h.0 of_table.0 h.1) (leads_told table ts h.0 q of_table.1 h.2)
-    (λ old mid new a b. (
-      a.0 ++ b.0,
-      publishes_then (number_in table) old mid new a.0 b.0 a.1 b.1,
-      b.2 ∙ ap (λ (l : List ℕ). l ++ b.0) (done_adds p.committed h.0.committed a.0 a.2) ∙ append_assoc p.committed a.0 b.0,
-    ))
+  module _ (Fails : StoreCall → Type 0) (committed : List ℕ) where
+    abbrev after : List Step → Renamed
+    after steps = renamed_by (number_in table) (all_settled committed) steps
 
--- from an empty list on
-tells : (status : Status) (mid after vs ws : List ℕ) → mid ≡ vs → Adds status mid after ws → TellsBy status after (vs ++ ws)
-tells status mid after vs ws is (inl a) = inl (ap (λ (l : List ℕ). l ++ ws) (sym is) ∙ sym a)
-tells status mid after vs ws is (inr (inl a)) = inr (inl (a.0, a.1, ap (λ (l : List ℕ). vs ++ l) a.2 ∙ ap (λ (l : List ℕ). l ++ a.0 ∷ []) (sym is ∙ sym a.3)))
-tells status mid after vs ws is (inr (inr a)) = inr (inr (a.0, a.1, ap (λ (l : List ℕ). vs ++ l) a.2 ∙ ap (λ (l : List ℕ). l ++ a.0 ∷ []) (sym is ∙ sym a.3)))
+    -- where no version is told
+    kind_told : (kind : Kind) (steps : List Step) (left : List Parts) → Took Fails kind [] steps left → ToldBy kind committed (after steps)
+    kind_told kinds.Done steps left t = ap after t.0
+    kind_told kinds.Told steps left t = ap after t.1.0
+    kind_told (kinds.Fault place) steps left (none, inl t) = ap after t.1.0
+    kind_told (kinds.Fault place) steps left (none, inr t) =
+        let f = t.1 in
+        let stop = f.stopped.steps_are in
+        ap after stop.2 ∙ failed_behind (number_in table) (the_draft t.0) (the_target t.0) t.0.bytes committed f.call stop.0 f.kind stop.1
+    kind_told (kinds.Unknown version) steps left (none, t) =
+        let f = t.2 in
+        let stop = f.stopped.steps_are in
+        let told = open_behind (number_in table) (the_draft t.0) (the_target t.0) t.0.bytes committed t.0.last (number_is t.0) f.call stop.0 f.kind stop.1 in
+        subst (λ (v : ℕ). ToldBy (kinds.Unknown v) committed (after steps)) (as_suc t.0 ∙ sym t.1)
+        (subst (λ (l : List Step). ToldBy (kinds.Unknown (suc t.0.last)) committed (after l)) (sym stop.2) told)
+    kind_told (kinds.Lost version) steps left t =
+        let b = t.1 in
+        ap after b.steps_are ∙ lost_behind (number_in table) (the_draft b.publish) (the_target b.publish) b.publish.bytes committed
+    kind_told kinds.Memory steps left (none, inl t) = inl (ap after t.0)
+    kind_told kinds.Memory steps left (none, inr t) =
+        let told = unmade_behind (number_in table) (the_draft t.0) (the_target t.0) t.0.bytes committed t.0.last (number_is t.0) t.1 in
+        subst (λ (l : List Step). ToldBy kinds.Memory committed (after l)) (sym t.2.steps_are) told
 
-pub tells_versions : (words : List (List ℕ)) (status : Status) (p q : Point) → p.committed ≡ [] → RunsBy words status p q → Since p.past q.past (TellsVersions words status q.committed)
-tells_versions words status p q empty (inl r) =
-    subst (λ (x : Point). Since p.past x.past (TellsVersions words status x.committed)) (sym r.1)
-    (since_start p.past Anything (TellsVersions words status p.committed) (told_any p.past) (λ old any. inl (refl, empty)))
-tells_versions words status p q empty (inr r) =
-    let e = r.ended in
-    let parts = front_of r.table e.before e.task e.after (subst (λ (l : List Task). AreOf r.table l) e.is r.ask.of_table) in
-    since_then p.past e.from.past q.past (AllTold r.table p.committed e.from.committed) (Told r.table status e.from.committed q.committed) (TellsVersions words status q.committed)
-    (leads_told r.table e.before p e.from parts.0 e.led) (ends_told r.table e.task status e.from q parts.1 e.ends)
-    (λ old mid new a b. inr (
-      r.table,
-      (r.tasks, r.ask),
-      (
-        a.0 ++ b.0,
-        publishes_then (number_in r.table) old mid new a.0 b.0 a.1 b.1,
-        tells status e.from.committed q.committed a.0 b.0 (a.2 ∙ ap (λ (l : List ℕ). l ++ a.0) empty) b.2,
-      ),
-    ))
+    -- where work is done
+    pub done_told : (versions : List ℕ) (steps : List Step) (left : List Parts) → Took Fails kinds.Done versions steps left → after steps ≡ all_settled (committed ++ versions)
+    done_told [] steps left t = ap after t.0 ∙ ap all_settled (sym (append-nil committed))
+    done_told (v ∷ versions) steps left t =
+        let b = t.1 in
+        let p = b.publish in
+        let number : suc p.last ≡ v = as_suc p ∙ sym b.version_is in
+        let told = plan_behind (number_in table) (the_draft p) (the_target p) p.bytes committed p.last (number_is p) in
+        ap after b.steps_are ∙ told ∙ ap (λ (n : ℕ). all_settled (committed ++ n ∷ [])) number ∙ ap (λ (l : List ℕ). all_settled (committed ++ v ∷ l)) (sym t.0)
+
+    pub took_told : (kind : Kind) (versions : List ℕ) (steps : List Step) (left : List Parts) → IsTold kind versions → Took Fails kind versions steps left → ToldBy kind (committed ++ versions) (after steps)
+    took_told kind versions steps left (inl done) t =
+        let here : Took Fails kinds.Done versions steps left = subst (λ (k : Kind). Took Fails k versions steps left) done t in
+        let told : ToldBy kinds.Done (committed ++ versions) (after steps) = done_told versions steps left here in
+        subst (λ (k : Kind). ToldBy k (committed ++ versions) (after steps)) (sym done) told
+    took_told kind versions steps left (inr none) t =
+        let here : Took Fails kind [] steps left = subst (λ (vs : List ℕ). Took Fails kind vs steps left) none t in
+        subst (λ (vs : List ℕ). ToldBy kind vs (after steps)) (sym (append-nil committed) ∙ ap (λ (l : List ℕ). committed ++ l) (sym none)) (kind_told kind steps left here)

@@ -46,13 +46,12 @@ pub record Tells (S C I O : Type 0) : Type 0 where
   pub output : O → Option (List ℕ)
   pub output_faults : O → ℕ
 
--- such objects, with what is noted
+-- such objects
 pub record Objects (S C I O : Type 0) : Type 0 where
   pub store : S
   pub clock : C
   pub ids : I
   pub out : O
-  pub notes : Notes
 
 module _ {S C I O : Type 0} where
   -- by these functions
@@ -60,12 +59,12 @@ module _ {S C I O : Type 0} where
   tells past faults halted moments identifiers output output_faults = record { past = past; faults = faults; halted = halted; moments = moments; identifiers = identifiers; output = output; output_faults = output_faults }
 
   -- these objects
-  abbrev pub at : S → C → I → O → Notes → Objects S C I O
-  at store clock ids out notes = record { store = store; clock = clock; ids = ids; out = out; notes = notes }
+  abbrev pub at : S → C → I → O → Objects S C I O
+  at store clock ids out = record { store = store; clock = clock; ids = ids; out = out }
 
-  -- the moment at which they are so
-  abbrev pub moment : Tells S C I O → Objects S C I O → Point
-  moment t x = record {
+  -- the moment at which they are so, and this is noted
+  abbrev pub moment : Tells S C I O → Objects S C I O → Notes → Point
+  moment t x notes = record {
     past = t.past x.store;
     faults = t.faults x.store;
     halted = t.halted x.store;
@@ -73,10 +72,10 @@ module _ {S C I O : Type 0} where
     identifiers = t.identifiers x.ids;
     output = t.output x.out;
     output_faults = t.output_faults x.out;
-    committed = x.notes.committed;
-    left = x.notes.left;
+    committed = notes.committed;
+    left = notes.left;
   }
 
-  -- the moments before and after a call are in a relation
-  abbrev pub Between : Tells S C I O → Objects S C I O → Objects S C I O → (Point → Point → Type 0) → Type 0
-  Between t before after Relation = Relation (moment t before) (moment t after)
+  -- the moments before and after a call, with what the log has at each, are in a relation
+  abbrev pub Between : Tells S C I O → Objects S C I O → Objects S C I O → Log → Log → (Point → Point → Type 0) → Type 0
+  Between t before after log log' Relation = Relation (moment t before (noted log)) (moment t after (noted log'))

@@ -1,6 +1,7 @@
 -- What a run does, and when each of its statuses comes.
 use Rattle.std.specs.Prelude.{◌≡◌, ◌⊎◌, ℕ, List, [], ◌∷◌, ◌++◌, Option, length, Contains}
 use Rattle.serde_json.specs.Data.{Data}
+use Rattle.ice_store.specs.Calls.{Rose}
 use Rattle.ice_store.specs.Places.{Parts}
 use Rattle.ice_store.specs.Given.{Gives}
 use Rattle.ice_store.specs.History.{replay, later}
@@ -18,13 +19,14 @@ use Rattle.commit_protocol.specs.declared.errors.Refusal.TheVariants as refusals
 use Rattle.commit_publish.specs.Kinds.{Kind, Marks}
 use Rattle.commit_publish.specs.Left.{Leaves}
 use Rattle.commit_versions.specs.Opening.{IsAskedFor}
+use Rattle.run_answers.specs.declared.status.Outcome.{Outcome}
 use Rattle.run_answers.specs.declared.status.Status.{Status}
 use Rattle.run_answers.specs.declared.status.Status.TheVariants.{Done, BadArgument, StoreFault, CommitUnknown, OutOfMemory}
 use Rattle.upkeep_top.specs.Chains.{Leads}
-use Rattle.upkeep_top.specs.Points.{Point}
+use Rattle.upkeep_top.specs.Points.{Objects, Point, Tells, moment, no_notes, run_notes}
 use Rattle.upkeep_top.specs.Promises.{Renamed, Renames, ToldBy, EndsOpen}
 use Rattle.upkeep_top.specs.Statements.{Ends, IsSafeFor}
-use Rattle.upkeep_top.specs.Verdicts.{Verdict, IsFree, meanings_of}
+use Rattle.upkeep_top.specs.Verdicts.{Verdict, IsFree, meanings_of, status_kind}
 use Rattle.upkeep_top.specs.Words.{Ask, RefusesWords}
 use Rattle.upkeep_top.specs.declared.task.Task.{Task}
 
@@ -87,32 +89,46 @@ pub record Row (status asked : Status) (task : Task) (now : ℕ) (Drawn : ℕ �
   pub only : status ≡ asked → Verdict task now Drawn (replay past).files asked
   pub exactly : IsOneDrawn Drawn → Verdict task now Drawn (replay past).files asked → (status ≡ asked) ⊎ IsFree status
 
--- the row of the last statement that ran, in the run between these histories
-pub record LastRow (words : List (List ℕ)) (status asked : Status) (past new : Option Past) : Type 0 where
-  pub p : Point
-  pub q : Point
-  pub past_is : p.past ≡ past
-  pub new_is : q.past ≡ new
+-- the row of the last statement that ran, in the run between these moments
+pub record LastRow (words : List (List ℕ)) (status asked : Status) (p q : Point) : Type 0 where
   pub ran : RanAsked words status p q
-  pub row : Since ran.ended.from.past new (λ old now. Row status asked ran.ended.task ran.ended.ends.now (Gives ran.ended.from.identifiers q.identifiers) old)
+  pub row : Since ran.ended.from.past q.past (λ old now. Row status asked ran.ended.task ran.ended.ends.now (Gives ran.ended.from.identifiers q.identifiers) old)
 
 -- a status of the statements comes exactly where its cause holds
-abbrev pub ComesExactly : List (List ℕ) → Status → Option Past → Option Past → Status → Type 0
-ComesExactly words status past new asked = IsRefusal words status ⊎ LastRow words status asked past new
+abbrev pub ComesExactly : List (List ℕ) → Status → Point → Point → Type 0
+ComesExactly words status p q = (asked : Status) → (IsFree asked → ⊥) → IsRefusal words status ⊎ LastRow words status asked p q
 
 -- the files at the beginning of the last statement that ran ask for this status
-pub record LastAsks (words : List (List ℕ)) (status : Status) (past new : Option Past) : Type 0 where
-  pub p : Point
-  pub q : Point
-  pub past_is : p.past ≡ past
-  pub new_is : q.past ≡ new
+pub record LastAsks (words : List (List ℕ)) (status asked : Status) (p q : Point) : Type 0 where
   pub ran : RanAsked words status p q
-  pub asks : Since ran.ended.from.past new (λ old now. Verdict ran.ended.task ran.ended.ends.now (Gives ran.ended.from.identifiers q.identifiers) (replay old).files status)
+  pub asks : Since ran.ended.from.past q.past (λ old now. Verdict ran.ended.task ran.ended.ends.now (Gives ran.ended.from.identifiers q.identifiers) (replay old).files asked)
+
+-- they ask for nothing but Done
+abbrev pub AsksNothing : List (List ℕ) → Status → Point → Point → Type 0
+AsksNothing words status p q = (asked : Status) → (asked ≡ Done → ⊥) → (IsFree asked → ⊥) → LastAsks words status asked p q → ⊥
 
 -- the words are refused for a cause of theirs, or the last statement that ran has its cause in its files, or a count of faults rose; and where none of these holds the run is Done, or memory lacked
-abbrev pub IsComplete : List (List ℕ) → Status → Option Past → Option Past → Type 0 → Type 0 → Type 0
-IsComplete words status past new StoreRose OutputRose =
-    (RefusesWords words status → ⊥) → (LastAsks words status past new → status ≡ Done) → (StoreRose → ⊥) → (OutputRose → ⊥) → (status ≡ Done) ⊎ (status ≡ OutOfMemory)
+abbrev pub IsComplete : List (List ℕ) → Status → Point → Point → Type 0
+IsComplete words status p q =
+    (RefusesWords words status → ⊥) → AsksNothing words status p q → (Rose p.faults q.faults → ⊥) → (Rose p.output_faults q.output_faults → ⊥) → (status ≡ Done) ⊎ (status ≡ OutOfMemory)
+
+-- The same of objects before and after a run, by its outcome.
+
+-- from nothing noted to what the outcome notes, in a relation
+abbrev pub OfOutcome : {S C I O : Type 0} → Tells S C I O → Objects S C I O → Objects S C I O → Outcome → (Status → Point → Point → Type 0) → Type 0
+OfOutcome t before after outcome Relation = Relation outcome.status (moment t before no_notes) (moment t after (run_notes outcome))
+
+-- what the run did
+abbrev pub Told : {S C I O : Type 0} → Tells S C I O → Objects S C I O → Objects S C I O → List (List ℕ) → Outcome → Type 0
+Told t before after words outcome = OfOutcome t before after outcome (Runs words)
+
+-- each status comes exactly where its cause holds
+abbrev pub Exactly : {S C I O : Type 0} → Tells S C I O → Objects S C I O → Objects S C I O → List (List ℕ) → Outcome → Type 0
+Exactly t before after words outcome = OfOutcome t before after outcome (ComesExactly words)
+
+-- where no status has a cause, the run is Done, or memory lacked
+abbrev pub Complete : {S C I O : Type 0} → Tells S C I O → Objects S C I O → Objects S C I O → List (List ℕ) → Outcome → Type 0
+Complete t before after words outcome = OfOutcome t before after outcome (IsComplete words)
 
 -- What a run promises of its history.
 
@@ -144,6 +160,8 @@ pub record PublishedBy (words : List (List ℕ)) (v : ℕ) (old new : Past) : Ty
   pub ended : Past
   pub earlier : List Event
   pub begun_is : begun ≡ later old earlier
+  pub events : List Event
+  pub ended_is : ended ≡ later begun events
   pub rest : List Event
   pub rest_is : new ≡ later ended rest
   pub succeeds : Succession (meanings_of task now).change.successor table now v begun ended
@@ -161,9 +179,9 @@ TellsVersions words kind committed old new = ((new ≡ old) × (committed ≡ []
 abbrev pub LeavesPlaces : List ℕ → List Parts → Type 0 → Option Failure → Past → Past → Type 0
 LeavesPlaces committed left Risen mark old new = Leaves Risen mark (length committed) [] left old new
 
--- the words are refused and no call failed; or a failed call is marked, and told at its place, by the kind of end
-abbrev pub MarksRun : List (List ℕ) → Kind → Option Failure → Option Failure → Option Past → Type 0
-MarksRun words kind before now told = (now ≡ before) ⊎ ((table : Parts) × AskOf words table × Marks table kind before now told)
+-- the words are refused and no call failed; or a failed call is marked, and told at its place, by the kind of end that the status tells
+abbrev pub MarksRun : List (List ℕ) → Status → Option Failure → Option Failure → Option Past → Type 0
+MarksRun words status before now told = (IsRefusal words status × (now ≡ before)) ⊎ ((table : Parts) × AskOf words table × Marks table (status_kind status) before now told)
 
 -- a store fault is told at a place that the run asked for: the table, its metadata's folder or a version's place; or at a new metadata file
 abbrev pub TellsFaultAt : List (List ℕ) → Parts → Type 0

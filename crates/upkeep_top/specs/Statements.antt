@@ -11,20 +11,21 @@ use Rattle.ice_store.specs.declared.history.Failure.{Failure}
 use Rattle.ice_store.specs.declared.history.Held.{Held}
 use Rattle.ice_store.specs.declared.history.Past.{Past}
 use Rattle.ice_store.specs.declared.history.Step.{Step}
+use Rattle.ice_store.specs.declared.faults.ReadErr.TheVariants.{StoreFault}
 use Rattle.commit_history.specs.Runs.{Ran}
 use Rattle.commit_publish.specs.Kinds as kinds
 use Rattle.commit_publish.specs.Kinds.{Kind, Counts, Marks}
 use Rattle.commit_publish.specs.Steps.{Anything}
 use Rattle.commit_versions.specs.Opening.{OpenFaultAt}
 use Rattle.commit_versions.specs.declared.types.OpenErr.{OpenErr}
-use Rattle.commit_protocol.specs.Ends.{Works, DrawsBy, LeavesBy}
+use Rattle.commit_protocol.specs.Ends.{Works, DrawsBy, LeavesBy, IsPublishFault}
 use Rattle.commit_protocol.specs.Kinds.{End, kind_of}
 use Rattle.commit_protocol.specs.Meanings.{Procedure}
 use Rattle.commit_protocol.specs.Metadata.{metadata_rules}
 use Rattle.commit_protocol.specs.Verdicts.{IsTable}
 use Rattle.commit_protocol.specs.declared.errors.CommitErr.{CommitErr}
 use Rattle.commit_protocol.specs.declared.errors.CommitErr.TheVariants.{Open, Attempt}
-use Rattle.commit_protocol.specs.declared.errors.AttemptErr.TheVariants.{Refused}
+use Rattle.commit_protocol.specs.declared.errors.AttemptErr.TheVariants.{Refused, Read}
 use Rattle.commit_protocol.specs.declared.errors.Refusal.{Refusal}
 use Rattle.run_answers.specs.Answers.{status_of}
 use Rattle.run_answers.specs.declared.status.Status.{Status}
@@ -112,6 +113,8 @@ pub record Ends (task : Task) (status : Status) (p q : Point) : Type 0 where
   pub halted : Marks task.table (kind_of end) p.halted q.halted q.past
   pub refused : (refusal : Refusal) → end.error ≡ Some (Attempt (Refused refusal)) → (tree : Data) × (meanings_of task now).change.refuses tree (Refused refusal)
   pub opening : (e : OpenErr) → end.error ≡ Some (Open e) → OpenFaultAt task.table e
+  pub fault : (place : Parts) → end.error ≡ Some (Attempt (Read (StoreFault place))) → IsPublishFault (Gives p.identifiers q.identifiers) task.table place
+  pub none : (e : CommitErr) → end.error ≡ Some e → end.versions ≡ []
   pub output_faults : OutputCounts status p.output_faults q.output_faults
 
 -- what a listing of ancestors on opened metadata answers: the report of the rows, the snapshot that lacks, or want of memory

@@ -3,7 +3,7 @@ ghost use Rattle.std.specs.Prelude.{◌≡◌, ◌≤◌, ◌<◌, ◌^◌, [], 
 ghost use Rattle.ice_store.specs.Others.{WhereTold};
 ghost use Rattle.serde_json.specs.View.{view};
 ghost use Rattle.commit_publish.specs.Stages.{InState};
-ghost use Rattle.upkeep_top.specs.Points.{Between, tells, at, noted};
+ghost use Rattle.upkeep_top.specs.Points.{Between, tells, at};
 ghost use Rattle.upkeep_top.specs.Statements.{Ends, IsEnd, OutputCounts, Reports, IsListedBy};
 ghost use Rattle.upkeep_top.specs.declared.task.Task.{Task as TheTask};
 
@@ -43,7 +43,7 @@ fn run_move<S: Store<Alone>, C: Clock, I: Ids, O: Sink>(
 ) -> Status
     requires work { task.now.work ≡ Work.Move goal.now }
     requires start { WhereTold (S.past store.old) (InState (λ d. d.pending ≡ [])) }
-    ensures { Between (tells S.past S.faults S.halted C.given I.given O.contents O.faults) (at store.old clock.old ids.old out.old (noted log.old)) (at store.new clock.new ids.new out.new (noted log.new)) (Ends task.now result) }
+    ensures { Between (tells S.past S.faults S.halted C.given I.given O.contents O.faults) (at store.old clock.old ids.old out.old) (at store.new clock.new ids.new out.new) log.old log.new (Ends task.now result) }
 {
     let now = clock.now_ms();
     let Ok(copied) = goal.copy() else {
@@ -81,7 +81,7 @@ fn run_list<S: Store<Alone>, C: Clock, I: Ids, O: Sink>(
 ) -> Status
     requires work { task.now.work ≡ Work.List given }
     requires start { WhereTold (S.past store.old) (InState (λ d. d.pending ≡ [])) }
-    ensures { Between (tells S.past S.faults S.halted C.given I.given O.contents O.faults) (at store.old clock.old ids.now out.old (noted log.now)) (at store.new clock.new ids.now out.new (noted log.now)) (Ends task.now result) }
+    ensures { Between (tells S.past S.faults S.halted C.given I.given O.contents O.faults) (at store.old clock.old ids.now out.old) (at store.new clock.new ids.now out.new) log.now log.now (Ends task.now result) }
 {
     let _ = clock.now_ms();
     match open_table::<Alone, S>(alloc, store, &task.table) {
@@ -101,7 +101,7 @@ pub(crate) fn run_task<S: Store<Alone>, C: Clock, I: Ids, O: Sink>(
     log: &mut Log,
 ) -> Status
     requires start { WhereTold (S.past store.old) (InState (λ d. d.pending ≡ [])) }
-    ensures { Between (tells S.past S.faults S.halted C.given I.given O.contents O.faults) (at store.old clock.old ids.old out.old (noted log.old)) (at store.new clock.new ids.new out.new (noted log.new)) (Ends task.now result) }
+    ensures { Between (tells S.past S.faults S.halted C.given I.given O.contents O.faults) (at store.old clock.old ids.old out.old) (at store.new clock.new ids.new out.new) log.old log.new (Ends task.now result) }
 {
     match &task.work {
         Work::Move(goal) => run_move::<S, C, I, O>(alloc, task, goal, store, clock, ids, out, log),

@@ -9,10 +9,10 @@ ghost use Rattle.commit_publish.specs.Stages.{InState};
 ghost use Rattle.run_answers.specs.Messages.{message_line};
 ghost use Rattle.run_answers.specs.Puts.{TakesPrefix, TakesAll};
 ghost use Rattle.run_answers.specs.declared.status.Status.{Status as TheStatus};
-ghost use Rattle.upkeep_top.specs.Points.{Between, tells, at, noted, no_notes, run_notes};
-ghost use Rattle.upkeep_top.specs.Runs.{EndedIfAny, Runs, TellsBadArgument, ComesExactly, IsComplete, IsSafeRun, KeepsPrefix, KeepsFiles, EachSucceeds, TellsVersions, LeavesPlaces, TellsFaultAt, EndsUnknown, MarksRun, MayLeave};
+ghost use Rattle.upkeep_top.specs.Points.{Between, tells, at};
+ghost use Rattle.upkeep_top.specs.Runs.{EndedIfAny, Told, TellsBadArgument, Exactly, Complete, IsSafeRun, KeepsPrefix, KeepsFiles, EachSucceeds, TellsVersions, LeavesPlaces, TellsFaultAt, EndsUnknown, MarksRun, MayLeave};
 ghost use Rattle.upkeep_top.specs.Statements.{OutputCounts};
-ghost use Rattle.upkeep_top.specs.Verdicts.{IsFree, status_kind};
+ghost use Rattle.upkeep_top.specs.Verdicts.{status_kind};
 ghost use Rattle.upkeep_top.specs.Words.{RefusesWords};
 
 use crate::statement::run_task;
@@ -34,7 +34,7 @@ fn run_tasks<S: Store<Alone>, C: Clock, I: Ids, O: Sink>(
     log: &mut Log,
 ) -> Status
     requires start { WhereTold (S.past store.old) (InState (λ d. d.pending ≡ [])) }
-    ensures { Between (tells S.past S.faults S.halted C.given I.given O.contents O.faults) (at store.old clock.old ids.old out.old (noted log.old)) (at store.new clock.new ids.new out.new (noted log.new)) (EndedIfAny tasks.now result) }
+    ensures { Between (tells S.past S.faults S.halted C.given I.given O.contents O.faults) (at store.old clock.old ids.old out.old) (at store.new clock.new ids.new out.new) log.old log.new (EndedIfAny tasks.now result) }
 {
     for task in tasks {
         let status = run_task::<S, C, I, O>(alloc, task, store, clock, ids, out, log);
@@ -55,7 +55,7 @@ fn run_words<S: Store<Alone>, C: Clock, I: Ids, O: Sink>(
     out: &mut O,
 ) -> Outcome
     requires start { WhereTold (S.past store.old) (InState (λ d. d.pending ≡ [])) }
-    ensures told { Between (tells S.past S.faults S.halted C.given I.given O.contents O.faults) (at store.old clock.old ids.old out.old no_notes) (at store.new clock.new ids.new out.new (run_notes result)) (Runs words.now result.status) }
+    ensures told { Told (tells S.past S.faults S.halted C.given I.given O.contents O.faults) (at store.old clock.old ids.old out.old) (at store.new clock.new ids.new out.new) words.now result }
     ensures no_call { (status : TheStatus) → RefusesWords words.now status → store.new ≡ store.old }
 {
     let mut log = Log {
@@ -96,13 +96,13 @@ pub fn run<R: AllocGlobal, S: Store<Alone>, C: Clock, I: Ids, O: Sink, X: Sink>(
     err: &mut X,
 ) -> Outcome
     requires start { WhereTold (S.past store.old) (InState (λ d. d.pending ≡ [])) }
-    ensures told { Between (tells S.past S.faults S.halted C.given I.given O.contents O.faults) (at store.old clock.old ids.old out.old no_notes) (at store.new clock.new ids.new out.new (run_notes result)) (Runs words.now result.status) }
+    ensures told { Told (tells S.past S.faults S.halted C.given I.given O.contents O.faults) (at store.old clock.old ids.old out.old) (at store.new clock.new ids.new out.new) words.now result }
     ensures refused { (status : TheStatus) → RefusesWords words.now status → (result.status ≡ status) ⊎ (result.status ≡ Status.OutOfMemory) }
     ensures no_call { (status : TheStatus) → RefusesWords words.now status → store.new ≡ store.old }
     ensures bad_statement { (word at : ℕ) → result.status ≡ Status.BadStatement word at → RefusesWords words.now result.status }
     ensures bad_argument { TellsBadArgument words.now result.status }
-    ensures exactly { (asked : TheStatus) → (IsFree asked → ⊥) → ComesExactly words.now result.status (S.past store.old) (S.past store.new) asked }
-    ensures complete { IsComplete words.now result.status (S.past store.old) (S.past store.new) (Rose (S.faults store.old) (S.faults store.new)) (Rose (O.faults out.old) (O.faults out.new)) }
+    ensures exactly { Exactly (tells S.past S.faults S.halted C.given I.given O.contents O.faults) (at store.old clock.old ids.old out.old) (at store.new clock.new ids.new out.new) words.now result }
+    ensures complete { Complete (tells S.past S.faults S.halted C.given I.given O.contents O.faults) (at store.old clock.old ids.old out.old) (at store.new clock.new ids.new out.new) words.now result }
     ensures faults { Counts (status_kind result.status) (S.faults store.old) (S.faults store.new) }
     ensures fault_place { (place : Parts) → result.status ≡ Status.StoreFault place → TellsFaultAt words.now place }
     ensures unknown { (version : ℕ) → result.status ≡ Status.CommitUnknown version → Since (S.past store.old) (S.past store.new) (EndsUnknown words.now version) }
@@ -115,7 +115,7 @@ pub fn run<R: AllocGlobal, S: Store<Alone>, C: Clock, I: Ids, O: Sink, X: Sink>(
     ensures left { Since (S.past store.old) (S.past store.new) (LeavesPlaces result.committed result.left (Rose (S.faults store.old) (S.faults store.new)) (S.halted store.new)) }
     ensures nothing_left { (MayLeave result.status → ⊥) → result.left ≡ [] }
     ensures rests { result.status ≡ Status.Done → WhereTold (S.past store.new) (InState (λ d. d.pending ≡ [])) }
-    ensures halted { MarksRun words.now (status_kind result.status) (S.halted store.old) (S.halted store.new) (S.past store.new) }
+    ensures halted { MarksRun words.now result.status (S.halted store.old) (S.halted store.new) (S.past store.new) }
     ensures message { TakesPrefix (X.contents err.old) (X.contents err.new) (message_line result.status) }
     ensures whole_message { (Rose (X.faults err.old) (X.faults err.new) → ⊥) → TakesAll (X.contents err.old) (X.contents err.new) (message_line result.status) }
 {

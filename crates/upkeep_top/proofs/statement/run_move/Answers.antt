@@ -1,58 +1,62 @@
-use Rattle.std.proofs.Common.{◌≡◌, arith, inl, [], Ok, Err, refl, sym, ap, ◌∙◌, subst}
+use Rattle.std.proofs.Common.{◌≡◌, arith, inl, ℕ, [], Option, Some, Result, Ok, Err, refl, sym, ap, ◌∙◌, subst, append-nil}
+use Rattle.serde_json.specs.Data.{Data}
 use Rattle.ice_store.specs.Given.{Gives}
 use Rattle.ice_store.specs.History.{replay}
-use Rattle.ice_store.proofs.SinceLaws.{since_start}
+use Rattle.ice_store.proofs.SinceLaws.{since_start, since_turned}
 use Rattle.ice_store.specs.declared.faults.ReadErr.TheVariants.{Memory}
 use Rattle.ice_store.specs.declared.history.Past.{Past}
-use Rattle.commit_protocol.specs.declared.errors.AttemptErr.TheVariants.{Read}
-use Rattle.commit_protocol.specs.declared.errors.CommitErr.TheVariants.{Attempt}
+use Rattle.commit_protocol.specs.Attempts.{CommitLeaves}
+use Rattle.commit_protocol.specs.Kinds.{End, end_of}
+use Rattle.commit_protocol.specs.declared.errors.AttemptErr.TheVariants.{Read, Refused}
+use Rattle.commit_protocol.specs.declared.errors.CommitErr.{CommitErr}
+use Rattle.commit_protocol.specs.declared.errors.CommitErr.TheVariants.{Attempt, Open}
+use Rattle.commit_protocol.specs.declared.errors.Committed.{Committed}
 use Rattle.run_answers.specs.declared.status.Status.TheVariants.{OutOfMemory}
+use Rattle.run_refs.specs.Meanings.{moves_of}
 use Rattle.run_refs.specs.Moves.{HasSeen}
-use Rattle.run_refs.specs.declared.goal.Goal.{Goal}
-use Rattle.serde_json.specs.Data.{Data}
-use Rattle.upkeep_top.specs.Points.{point}
-use Rattle.upkeep_top.specs.Reports.{move_report}
-use Rattle.upkeep_top.specs.Statements.{Ends, Did, Reports}
-use Rattle.upkeep_top.specs.Verdicts.{End}
+use Rattle.run_refs.specs.Procedures.{move_procedure}
+use Rattle.run_refs.specs.Reports.{move_report}
+use Rattle.upkeep_top.specs.Points.{at, moment, noted, tells}
+use Rattle.upkeep_top.specs.Statements.{Ends, Did, ReportedBy}
 use Rattle.upkeep_top.specs.declared.task.Task.{Task}
-use Rattle.upkeep_top.specs.declared.task.Work.{Work}
 use Rattle.upkeep_top.specs.declared.task.Work.TheVariants.{Move}
-use Rattle.upkeep_top.proofs.EndLaws.{did_at}
-use Rattle.upkeep_top.proofs.ListLaws.{did_nothing}
-use Rattle.upkeep_top.proofs.LeftLaws.{nothing_noted}
-use Rattle.upkeep_top.proofs.FailLaws.{no_failure, move_fault}
-use Rattle.upkeep_top.proofs.VersionLaws.{not_done_is, no_output_is}
+use Rattle.upkeep_top.proofs.EndLaws.{Commits, answers_done, did_move, error_of, move_fault, report_move, tells_none}
+use Rattle.upkeep_top.proofs.ListLaws.{did_nothing, ends_of, stops}
+use Rattle.upkeep_top.proofs.StatusLaws.{not_output}
 use Rattle.upkeep_top.proofs.statement.run_move.Goals as goal
 
 pub returns-in_default : goal.returns-in_default
 returns-in_default g c =
     let w = c.args.task.now in
     let made : Task = record { word = w.word; table = w.table; work = Move c.args.goal.now } in
-    let p = point (g.S.Store.past c.args.store.now) (g.S.Store.faults c.args.store.now) (g.S.Store.halted c.args.store.now) (g.C.Clock.given c.args.clock.now) (g.I.Ids.given c.args.ids.now) (g.O.Sink.contents c.args.out.now) (g.O.Sink.faults c.args.out.now) c.args.log.now.committed.items c.args.log.now.left.items in
-    let q = point (g.S.Store.past c.args.store.now) (g.S.Store.faults c.args.store.now) (g.S.Store.halted c.args.store.now) (g.C.Clock.given c.now_ms-now.new.self) (g.I.Ids.given c.args.ids.now) (g.O.Sink.contents c.args.out.now) (g.O.Sink.faults c.args.out.now) c.args.log.now.committed.items c.args.log.now.left.items in
+    let t = tells g.S.Store.past g.S.Store.faults g.S.Store.halted g.C.Clock.given g.I.Ids.given g.O.Sink.contents g.O.Sink.faults in
+    let p = moment t (at c.args.store.now c.args.clock.now c.args.ids.now c.args.out.now) (noted c.args.log.now) in
+    let q = moment t (at c.args.store.now c.now_ms-now.new.self c.args.ids.now c.args.out.now) (noted c.args.log.now) in
     let now = c.now_ms-now.result in
-    let Drawn = Gives (g.I.Ids.given c.args.ids.now) (g.I.Ids.given c.args.ids.now) in
-    let end : End = Err (Attempt (Read Memory)) in
-    let out = g.O.Sink.contents c.args.out.now in
-    let does : Past → Past → Type 0 = Did made now Drawn end OutOfMemory out out in
+    let Drawn = Gives p.identifiers p.identifiers in
+    let error : Option CommitErr = Some (Attempt (Read Memory)) in
+    let does : Past → Past → Type 0 = Did made now Drawn (stops error) p.halted p.left p.left in
+    let reports : Past → Past → Type 0 = λ old new. ReportedBy (move_procedure c.args.goal.now now) w.table p.output p.output OutOfMemory (replay old).files error in
     let ends : Ends made OutOfMemory p q = record {
       now = now;
       moment = c.now_ms-now.ensures.given;
-      end = end;
+      end = stops error;
       answers = refl;
-      did = since_start (g.S.Store.past c.args.store.now) (λ past. (replay past).pending ≡ []) does c.requires.start (λ old rest. did_nothing made now Drawn end OutOfMemory out out old old refl tt tt tt (inl refl) tt tt refl);
-      committed = refl;
+      did = since_start p.past (λ past. (replay past).pending ≡ []) does c.requires.start (λ old rest. did_nothing made now Drawn error p.halted p.left old (refl, tt) tt tt);
+      report = since_start p.past (λ past. (replay past).pending ≡ []) reports c.requires.start (λ old rest. refl);
+      committed = sym (append-nil p.committed);
       left = inl refl;
-      noted = nothing_noted (g.S.Store.past c.args.store.now) (g.S.Store.past c.args.store.now) refl _ _ c.args.log.now.left.items;
-      fails = no_failure w.table Drawn c.args.log.now.left.items c.args.log.now.left.items (g.S.Store.past c.args.store.now) (g.S.Store.past c.args.store.now) end refl;
-      faults = tt;
+      drawn = inl refl;
+      faults = refl;
       later = omega arith;
-      output_faults = λ e. absurd (cc (e));
-      output_later = omega arith;
-      halted = inl refl;
-      goes_on = λ e. refl;
+      halted = refl;
+      refused = λ refusal is. absurd (cc (is));
+      opening = λ e is. absurd (cc (is));
+      fault = λ place is. absurd (cc (is));
+      none = λ e is. refl;
+      output_faults = record { rose = λ e. absurd (cc (e)); kept = λ e. refl };
     } in
-    subst (λ (t : Task). Ends t OutOfMemory p q) (ap (λ (x : Work). record { word = w.word; table = w.table; work = x }) (sym c.requires.work)) ends
+    ends_of w (Move c.args.goal.now) OutOfMemory p q (sym c.requires.work) ends
 
 pub returns-in-Ok-commit : goal.returns-in-Ok-commit
 returns-in-Ok-commit g c =
@@ -63,34 +67,37 @@ returns-in-Ok-commit g c =
     let status = c.put_report.result in
     let goals : r.goal ≡ c.args.goal.now = c.new-change.ensures.goal ∙ c.in-Ok.ensures in
     let made : Task = record { word = w.word; table = w.table; work = Move r.goal } in
-    let p0 = g.S.Store.past c.args.store.now in
-    let p1 = g.S.Store.past c.commit.new.store in
-    let before = g.O.Sink.contents c.args.out.now in
-    let after = g.O.Sink.contents c.put_report.new.out in
-    let p = point p0 (g.S.Store.faults c.args.store.now) (g.S.Store.halted c.args.store.now) (g.C.Clock.given c.args.clock.now) (g.I.Ids.given c.args.ids.now) before (g.O.Sink.faults c.args.out.now) c.args.log.now.committed.items c.args.log.now.left.items in
-    let q = point p1 (g.S.Store.faults c.commit.new.store) (g.S.Store.halted c.commit.new.store) (g.C.Clock.given c.now_ms-now.new.self) (g.I.Ids.given c.commit.new.ids) after (g.O.Sink.faults c.put_report.new.out) c.commit.new.log.committed.items c.commit.new.log.left.items in
-    let Drawn = Gives (g.I.Ids.given c.args.ids.now) (g.I.Ids.given c.commit.new.ids) in
-    let end : End = Ok c.in-Ok-commit.field-0 in
+    let t = tells g.S.Store.past g.S.Store.faults g.S.Store.halted g.C.Clock.given g.I.Ids.given g.O.Sink.contents g.O.Sink.faults in
+    let p = moment t (at c.args.store.now c.args.clock.now c.args.ids.now c.args.out.now) (noted c.args.log.now) in
+    let q = moment t (at c.commit.new.store c.now_ms-now.new.self c.commit.new.ids c.put_report.new.out) (noted c.commit.new.log) in
+    let Drawn = Gives p.identifiers q.identifiers in
+    let done = c.in-Ok-commit.field-0 in
+    let answer : Result Committed CommitErr = Ok done in
+    let end : End = end_of answer in
     let e = c.in-Ok-commit.ensures in
-    let put : Reports before after (move_report r.goal s.previous s.id) status = subst (λ (x : Goal). Reports before after (move_report x s.previous s.id) status) (sym goals) (c.put_report.ensures.reports (move_report c.args.goal.now s.previous s.id) c.report_move.ensures) in
+    let Seen : Data → Type 0 = λ tree. (s.goal ≡ r.goal) × HasSeen r.goal tree s.previous s.id in
+    let Made : ℕ → Type 0 = λ m. Commits w.table (moves_of r.goal m Seen) Drawn now answer q.halted p.left q.left p.past q.past in
+    let commits = subst Made c.new-change.ensures.now (record { told = e.told; works = e.works; caused = e.alone (λ past step h. h); succeeds = e.successors (λ past step h. h); refused = e.refused }) in
     let ends : Ends made status p q = record {
       now = now;
       moment = c.now_ms-now.ensures.given;
       end = end;
-      answers = c.put_report.ensures.status;
-      did = did_at w.word w.table r.goal now Drawn s.previous s.id (λ (tree : Data). (s.goal ≡ r.goal) × HasSeen r.goal tree s.previous s.id) (λ tree h. h.1) r.now c.new-change.ensures.now end status before after p0 p1 c.requires.start e.told (e.alone (λ past step h. h)) (e.idle (λ past step h. h)) put;
+      answers = answers_done w.word done status c.put_report.ensures.status;
+      did = did_move w.word w.table r.goal now Drawn Seen answer q.halted p.left q.left p.past q.past commits c.requires.start;
+      report = report_move w.word w.table r.goal now Drawn Seen s.goal s.previous s.id (λ tree seen. seen) status p.output q.output done p.past q.past (c.put_report.ensures.reports (move_report s.goal s.previous s.id) c.report.ensures) commits.told;
       committed = e.committed;
       left = e.left;
-      noted = e.noted;
-      fails = no_failure w.table Drawn c.args.log.now.left.items c.commit.new.log.left.items p0 p1 end refl;
+      drawn = e.drawn;
       faults = e.cause;
       later = e.later;
+      halted = e.halted;
+      refused = λ refusal is. commits.refused refusal (error_of answer (Attempt (Refused refusal)) is);
+      opening = λ x is. e.opening x (error_of answer (Open x) is);
+      fault = move_fault r.goal r.now Seen Drawn w.table answer e.fault_place;
+      none = tells_none answer;
       output_faults = c.put_report.ensures.cause;
-      output_later = c.put_report.ensures.later;
-      halted = inl e.halted;
-      goes_on = λ d. e.halted;
     } in
-    subst (λ (t : Task). Ends t status p q) (ap (λ (x : Work). record { word = w.word; table = w.table; work = x }) (ap Move goals ∙ sym c.requires.work)) ends
+    ends_of w (Move r.goal) status p q (ap Move goals ∙ sym c.requires.work) ends
 
 pub returns : goal.returns
 returns g c =
@@ -101,29 +108,34 @@ returns g c =
     let status = c.status_of_error.result in
     let goals : r.goal ≡ c.args.goal.now = c.new-change.ensures.goal ∙ c.in-Ok.ensures in
     let made : Task = record { word = w.word; table = w.table; work = Move r.goal } in
-    let p0 = g.S.Store.past c.args.store.now in
-    let p1 = g.S.Store.past c.commit.new.store in
-    let out = g.O.Sink.contents c.args.out.now in
-    let p = point p0 (g.S.Store.faults c.args.store.now) (g.S.Store.halted c.args.store.now) (g.C.Clock.given c.args.clock.now) (g.I.Ids.given c.args.ids.now) out (g.O.Sink.faults c.args.out.now) c.args.log.now.committed.items c.args.log.now.left.items in
-    let q = point p1 (g.S.Store.faults c.commit.new.store) (g.S.Store.halted c.commit.new.store) (g.C.Clock.given c.now_ms-now.new.self) (g.I.Ids.given c.commit.new.ids) out (g.O.Sink.faults c.args.out.now) c.commit.new.log.committed.items c.commit.new.log.left.items in
-    let Drawn = Gives (g.I.Ids.given c.args.ids.now) (g.I.Ids.given c.commit.new.ids) in
-    let end : End = Err c.in-Err.e in
+    let t = tells g.S.Store.past g.S.Store.faults g.S.Store.halted g.C.Clock.given g.I.Ids.given g.O.Sink.contents g.O.Sink.faults in
+    let p = moment t (at c.args.store.now c.args.clock.now c.args.ids.now c.args.out.now) (noted c.args.log.now) in
+    let q = moment t (at c.commit.new.store c.now_ms-now.new.self c.commit.new.ids c.args.out.now) (noted c.commit.new.log) in
+    let Drawn = Gives p.identifiers q.identifiers in
+    let error = c.in-Err.e in
+    let answer : Result Committed CommitErr = Err error in
     let e = c.in-Err.ensures in
+    let Seen : Data → Type 0 = λ tree. (s.goal ≡ r.goal) × HasSeen r.goal tree s.previous s.id in
+    let Made : ℕ → Type 0 = λ m. Commits w.table (moves_of r.goal m Seen) Drawn now answer q.halted p.left q.left p.past q.past in
+    let commits = subst Made c.new-change.ensures.now (record { told = e.told; works = e.works; caused = e.alone (λ past step h. h); succeeds = e.successors (λ past step h. h); refused = e.refused }) in
+    let Told : Past → Past → Type 0 = CommitLeaves w.table (λ past step. ⊥) (moves_of r.goal now Seen) Drawn now (Err error) in
     let ends : Ends made status p q = record {
       now = now;
       moment = c.now_ms-now.ensures.given;
-      end = end;
+      end = end_of answer;
       answers = c.status_of_error.ensures;
-      did = did_at w.word w.table r.goal now Drawn s.previous s.id (λ (tree : Data). (s.goal ≡ r.goal) × HasSeen r.goal tree s.previous s.id) (λ tree h. h.1) r.now c.new-change.ensures.now end status out out p0 p1 c.requires.start e.told (e.alone (λ past step h. h)) (e.idle (λ past step h. h)) refl;
+      did = did_move w.word w.table r.goal now Drawn Seen answer q.halted p.left q.left p.past q.past commits c.requires.start;
+      report = since_turned p.past q.past Told (λ old new. p.output ≡ p.output) commits.told (λ old new h. refl);
       committed = e.committed;
       left = e.left;
-      noted = e.noted;
-      fails = record { opening = e.opening; fault = λ place is. move_fault r.goal r.now (λ (tree : Data). (s.goal ≡ r.goal) × HasSeen r.goal tree s.previous s.id) Drawn w.table place c.args.log.now.left.items c.commit.new.log.left.items (e.fault place is); renamed = e.renamed };
+      drawn = e.drawn;
       faults = e.cause;
       later = e.later;
-      output_faults = λ d. absurd (no_output_is w.word c.in-Err.e status c.status_of_error.ensures d);
-      output_later = omega arith;
       halted = e.halted;
-      goes_on = λ d. absurd (not_done_is w.word c.in-Err.e status c.status_of_error.ensures d);
+      refused = λ refusal is. commits.refused refusal (error_of answer (Attempt (Refused refusal)) is);
+      opening = λ x is. e.opening x (error_of answer (Open x) is);
+      fault = move_fault r.goal r.now Seen Drawn w.table answer e.fault_place;
+      none = tells_none answer;
+      output_faults = record { rose = λ d. absurd (not_output w.word error status c.status_of_error.ensures d); kept = λ d. refl };
     } in
-    subst (λ (t : Task). Ends t status p q) (ap (λ (x : Work). record { word = w.word; table = w.table; work = x }) (ap Move goals ∙ sym c.requires.work)) ends
+    ends_of w (Move r.goal) status p q (ap Move goals ∙ sym c.requires.work) ends

@@ -1,6 +1,5 @@
-use Rattle.std.proofs.Common.{inl, inr, refl}
+use Rattle.std.proofs.Common.{refl}
 use Rattle.upkeep_top.proofs.RunLaws as laws
-use Rattle.upkeep_top.proofs.VerdictLaws.{not_free}
 use Rattle.upkeep_top.proofs.top_call.run.Goals as goal
 
 pub returns-clause-refused : goal.returns-clause-refused
@@ -13,25 +12,22 @@ pub returns-clause-bad_argument : goal.returns-clause-bad_argument
 returns-clause-bad_argument g c = laws.bad_argument _ _ _ _ c.run_words-outcome.ensures.told
 
 pub returns-clause-exactly : goal.returns-clause-exactly
-returns-clause-exactly g c = λ asked plain. laws.comes _ _ _ _ c.run_words-outcome.ensures.told asked (not_free asked plain)
+returns-clause-exactly g c = laws.comes _ _ _ _ c.run_words-outcome.ensures.told
 
 pub returns-clause-complete : goal.returns-clause-complete
 returns-clause-complete g c = laws.complete _ _ _ _ c.run_words-outcome.ensures.told
 
-pub returns-clause-store_fault : goal.returns-clause-store_fault
-returns-clause-store_fault g c = λ place is. laws.store_rose _ _ _ _ c.run_words-outcome.ensures.told (inl (place, is))
-
-pub returns-clause-unknown : goal.returns-clause-unknown
-returns-clause-unknown g c = λ version is. laws.store_rose _ _ _ _ c.run_words-outcome.ensures.told (inr (version, is))
+pub returns-clause-faults : goal.returns-clause-faults
+returns-clause-faults g c = laws.counts _ _ _ _ c.run_words-outcome.ensures.told
 
 pub returns-clause-fault_place : goal.returns-clause-fault_place
-returns-clause-fault_place g c = λ place is. laws.fault_at _ _ _ _ c.run_words-outcome.ensures.told refl place is
+returns-clause-fault_place g c = λ place is. laws.fault_at _ _ _ _ c.run_words-outcome.ensures.told place is
 
-pub returns-clause-renamed : goal.returns-clause-renamed
-returns-clause-renamed g c = λ version is. laws.renamed _ _ _ _ c.run_words-outcome.ensures.told refl version is
+pub returns-clause-unknown : goal.returns-clause-unknown
+returns-clause-unknown g c = λ version is. laws.unknown _ _ _ _ c.run_words-outcome.ensures.told version is
 
-pub returns-clause-out_fault : goal.returns-clause-out_fault
-returns-clause-out_fault g c = λ is. laws.output_rose _ _ _ _ c.run_words-outcome.ensures.told is
+pub returns-clause-out_faults : goal.returns-clause-out_faults
+returns-clause-out_faults g c = laws.output _ _ _ _ c.run_words-outcome.ensures.told
 
 pub returns-clause-safe : goal.returns-clause-safe
 returns-clause-safe g c = laws.safe _ _ _ _ c.run_words-outcome.ensures.told
@@ -58,4 +54,4 @@ pub returns-clause-rests : goal.returns-clause-rests
 returns-clause-rests g c = λ is. laws.rests _ _ _ _ c.run_words-outcome.ensures.told is
 
 pub returns-clause-halted : goal.returns-clause-halted
-returns-clause-halted g c = laws.halts _ _ _ _ c.run_words-outcome.ensures.told
+returns-clause-halted g c = laws.marks _ _ _ _ c.run_words-outcome.ensures.told

@@ -4,7 +4,8 @@ use Rattle.commit_history.specs.Runs.{Ran}
 use Rattle.commit_history.specs.Versions.{number_in}
 use Rattle.commit_history.proofs.Running.{begins}
 use Rattle.commit_history.proofs.Numbering.{numbering}
-use Rattle.commit_publish.specs.Stages.{Exactly, InState}
+use Rattle.commit_publish.specs.Stages.{InState}
+use Rattle.commit_publish.specs.Steps.{Exactly}
 use Rattle.commit_versions.specs.Opening.{OpenStage}
 use Rattle.commit_protocol.specs.Metadata.{metadata_local, metadata_rules}
 use Rattle.run_refs.proofs.moves.RefMoveChange.attempt.Goals as goal
