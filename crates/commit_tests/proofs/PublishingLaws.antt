@@ -1,5 +1,6 @@
 -- A publish of another writer is allowed, step by step.
-use Rattle.std.proofs.Common.{◌≡◌, ℕ, ◌+◌, ◌<◌, List, [], ◌∷◌, Option, Some, false, true, is_some, refl, sym, ap, ◌∙◌, inr, arith}
+use Rattle.std.proofs.Common.{◌≡◌, ℕ, ◌+◌, ◌<◌, List, [], ◌∷◌, Option, Some, None, Bor, Result, Ok, Err, IfOk, false, true, is_some, refl, sym, ap, ◌∙◌, inr, arith}
+use Rattle.std.specs.Option.{option_copied}
 use Rattle.ice_store.specs.Places.{Parts}
 use Rattle.ice_store.specs.Files.{find, is_named, renamed, moved}
 use Rattle.ice_store.specs.History.{Disk, later, replay, files_after, new_file, appended, sealed}
@@ -9,6 +10,7 @@ use Rattle.ice_store.proofs.HistoryLaws.{replay-later}
 use Rattle.ice_store.specs.declared.history.Event.{Event}
 use Rattle.ice_store.specs.declared.history.Held.{Held}
 use Rattle.ice_store.specs.declared.history.Past.{Past}
+use Rattle.ice_store.specs.declared.history.Step.{Step}
 use Rattle.ice_store.specs.declared.history.Step.TheVariants.{Create, Append, Seal}
 use Rattle.ice_store.specs.declared.history.Who.TheVariants.{Them}
 use Rattle.store_memory.specs.Neighbours.{by_them, next_moment}
@@ -103,11 +105,19 @@ module _ (reading : Reading) (ruled : IsNumbering reading.number) (localized : I
   publish_allowed = (
     refl,
     (from_free, plain),
-    refl,
-    record { file = file1; stands = stands1; theirs = refl; sealed_is = refl },
-    refl,
-    record { file = file2; stands = stands2; theirs = refl; sealed_is = refl },
-    refl,
-    is_next,
-    tt,
+    (
+      refl,
+      record { file = file1; stands = stands1; theirs = refl; sealed_is = refl },
+      (refl, record { file = file2; stands = stands2; theirs = refl; sealed_is = refl }, (refl, is_next, tt)),
+    ),
   )
+
+-- no file is found, where none is lent
+pub none_found : (lent : Option (Bor Held)) (found : Option Held) → option_copied lent ≡ found → is_some lent ≡ false → is_some found ≡ false
+none_found None found e none = sym (ap is_some e)
+none_found (Some h) found e none = absurd (cc)
+
+-- a fact of the steps, where there was memory for them
+pub of_steps : {E : Type 0} (P Q : List Step → Type 0) (r : Result (List Step) E) → ((steps : List Step) → P steps → Q steps) → IfOk r P → IfOk r Q
+of_steps P Q (Ok steps) turn here = turn steps here
+of_steps P Q (Err e) turn here = tt

@@ -1,5 +1,5 @@
 //! Another writer of a table, who publishes the next version before one call of the store.
-ghost use Rattle.std.specs.Prelude.{◌≡◌, ℕ, ◌+◌, List, Option, IfOk, IfSome, IsTrue};
+ghost use Rattle.std.specs.Prelude.{◌≡◌, ℕ, ◌+◌, max, List, Option, IfOk, IfSome, IsTrue};
 ghost use Rattle.ice_store.specs.History.{replay};
 ghost use Rattle.ice_store.specs.Others.{Allowed};
 ghost use Rattle.ice_store.specs.Places.{Parts};
@@ -108,9 +108,15 @@ fn greatest_in(table: &Place, listed: &[Listed]) -> Option<u64>
 {
     let mut last = 0;
     for i in 0..listed.len() {
-        last = last.max(version_number(table, &listed[i].place)?);
+        last = greater(last, version_number(table, &listed[i].place)?);
     }
     Some(last)
+}
+
+fn greater(a: u64, b: u64) -> u64
+    ensures { result ≡ max a b }
+{
+    if a < b { b } else { a }
 }
 
 fn publish_steps(
