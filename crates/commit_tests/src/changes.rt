@@ -1,5 +1,8 @@
 //! A change that sets the branch `main`.
-ghost use Rattle.commit_tests.specs.Mains.{sets_main};
+ghost use Rattle.std.specs.Prelude.{◌≡◌, ◌<◌, ◌^◌, codes, IfOk, IfErr};
+ghost use Rattle.serde_json.specs.View.{view};
+ghost use Rattle.table_metadata.specs.Edits.{with_ref};
+ghost use Rattle.commit_tests.specs.Mains.{RefusesMain, sets_main};
 
 use commit_protocol::{AttemptErr, Built, Change, Log, Refusal};
 use ice_store::{Ids, Manners, Place, Store, Text};
@@ -26,11 +29,19 @@ impl<M: Manners> Change<M> for SetMain {
         now: u64,
         _log: &mut Log,
     ) -> Result<Built, AttemptErr> {
-        let id = self.id;
-        if !meta.has_snapshot(id) {
-            return Err(AttemptErr::Refused(Refusal::UnknownSnapshot { id }));
-        }
-        let name = Text::copy_of(alloc, b"main")?;
-        Ok(Built::Next(meta.into_with_ref(alloc, &name, id, now)?))
+        let built = with_main(alloc, meta, self.id, now)?;
+        Ok(Built::Next(built))
     }
+}
+
+fn with_main(alloc: Global, meta: Meta, id: i64, now: u64) -> Result<Meta, AttemptErr>
+    requires { now < 2 ^ 63 }
+    ensures built { IfOk result (λ built. view built ≡ with_ref (codes "main") id now (view meta)) }
+    ensures refused { IfErr result (RefusesMain id (view meta)) }
+{
+    if !meta.has_snapshot(id) {
+        return Err(AttemptErr::Refused(Refusal::UnknownSnapshot { id }));
+    }
+    let name = Text::copy_of(alloc, "main".as_bytes())?;
+    Ok(meta.into_with_ref(alloc, &name, id, now)?)
 }
