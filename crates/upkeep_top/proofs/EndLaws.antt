@@ -1,5 +1,5 @@
 -- What a statement that commits did, by its end.
-use Rattle.std.proofs.Common.{◌≡◌, inl, inr, ℕ, ℤ, List, [], ◌∷◌, Option, Some, None, Result, Ok, Err, refl, sym, ap, ◌∙◌, subst}
+use Rattle.std.proofs.Common.{◌≡◌, inl, inr, ℕ, ℤ, List, [], Option, Some, None, Result, Ok, Err, refl, sym, ap, ◌∙◌, subst}
 use Rattle.serde_json.specs.Data.{Data}
 use Rattle.serde_json.specs.View.{view}
 use Rattle.ice_store.specs.Others.{WhereTold}
@@ -13,11 +13,10 @@ use Rattle.ice_store.specs.declared.history.Past.{Past}
 use Rattle.ice_store.specs.declared.faults.ReadErr.TheVariants.{Missing, Damaged, Unsupported, StoreFault, Memory}
 use Rattle.table_metadata.specs.Edits.{HasVersionLimit}
 use Rattle.commit_publish.specs.Steps.{Anything}
-use Rattle.commit_versions.specs.declared.types.OpenErr.{OpenErr}
 use Rattle.commit_versions.specs.declared.types.OpenErr.TheVariants as opens
-use Rattle.commit_protocol.specs.Attempts.{Attempted, CommitLeaves}
+use Rattle.commit_protocol.specs.Attempts.{CommitLeaves}
 use Rattle.commit_protocol.specs.Ends.{CommitWorks, IsPublishFault, TellsFault, WasOpened, Works}
-use Rattle.commit_protocol.specs.Kinds.{End, commit_kind, end_of, kind_of}
+use Rattle.commit_protocol.specs.Kinds.{commit_kind, end_of, kind_of}
 use Rattle.commit_protocol.specs.Meanings.{Meanings}
 use Rattle.commit_protocol.specs.Metadata.{metadata_reading, metadata_rules}
 use Rattle.commit_protocol.specs.Promises.{Succeeds}
@@ -34,7 +33,7 @@ use Rattle.commit_protocol.proofs.VerdictLaws.{opening_answered}
 use Rattle.commit_protocol.proofs.WorkLaws.{works_turned}
 use Rattle.run_answers.specs.declared.status.Status.{Status}
 use Rattle.run_refs.specs.Meanings.{moves_of}
-use Rattle.run_refs.specs.Moves.{HasSeen, Moves}
+use Rattle.run_refs.specs.Moves.{HasSeen}
 use Rattle.run_refs.specs.Procedures.{Unasked, move_procedure}
 use Rattle.run_refs.specs.Reports.{move_report}
 use Rattle.run_refs.specs.declared.goal.Goal.{Goal}

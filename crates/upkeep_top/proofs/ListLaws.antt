@@ -1,5 +1,5 @@
 -- What a statement did that takes no step of ours.
-use Rattle.std.proofs.Common.{◌≡◌, inl, ℕ, ℤ, List, [], Option, Some, None, Ok, Err, refl, sym, ◌∙◌, subst}
+use Rattle.std.proofs.Common.{◌≡◌, ℕ, ℤ, List, [], Option, Some, None, Ok, Err, refl, sym, subst}
 use Rattle.serde_json.specs.Data.{Data}
 use Rattle.ice_store.specs.Others.{WhereTold}
 use Rattle.ice_store.specs.Places.{Parts}
@@ -9,9 +9,9 @@ use Rattle.ice_store.specs.declared.faults.ReadErr.TheVariants.{Missing, Damaged
 use Rattle.ice_store.specs.declared.history.Failure.{Failure}
 use Rattle.ice_store.specs.declared.history.Past.{Past}
 use Rattle.table_metadata.specs.declared.cause.EditErr.TheVariants.{UnknownSnapshot as Lacks}
-use Rattle.commit_publish.specs.Kinds.{Kind, Failing}
+use Rattle.commit_publish.specs.Kinds.{Failing}
 use Rattle.commit_publish.specs.Steps.{Anything}
-use Rattle.commit_versions.specs.Opening.{OpenMarks, open_kind}
+use Rattle.commit_versions.specs.Opening.{open_kind}
 use Rattle.commit_versions.specs.declared.types.OpenErr.{OpenErr}
 use Rattle.commit_versions.specs.declared.types.OpenErr.TheVariants.{NoTable, LocationDiffers, Read as NotRead}
 use Rattle.commit_protocol.specs.Kinds.{End, error_kind}
@@ -22,7 +22,7 @@ use Rattle.commit_protocol.specs.declared.errors.Refusal.TheVariants.{UnknownSna
 use Rattle.commit_protocol.specs.declared.errors.AttemptErr.TheVariants.{Refused, Read}
 use Rattle.commit_protocol.specs.declared.errors.CommitErr.{CommitErr}
 use Rattle.commit_protocol.specs.declared.errors.CommitErr.TheVariants.{Open, Attempt}
-use Rattle.commit_protocol.proofs.WorkLaws.{LooksBy, looked, works_none}
+use Rattle.commit_protocol.proofs.WorkLaws.{LooksBy, works_none}
 use Rattle.run_answers.specs.declared.status.Status.{Status}
 use Rattle.run_refs.specs.Ancestors.{Lists}
 use Rattle.run_refs.specs.Procedures.{RefusesListing, list_procedure}

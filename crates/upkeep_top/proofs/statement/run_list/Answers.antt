@@ -1,4 +1,4 @@
-use Rattle.std.proofs.Common.{◌≡◌, arith, inl, inr, [], Option, Some, None, Ok, Err, refl, sym, ap, subst, append-nil}
+use Rattle.std.proofs.Common.{◌≡◌, inl, inr, [], Option, Some, None, Err, refl, sym, subst, append-nil}
 use Rattle.serde_json.specs.View.{view}
 use Rattle.ice_store.specs.Given.{Gives}
 use Rattle.ice_store.specs.History.{replay}
