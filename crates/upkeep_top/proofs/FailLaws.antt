@@ -1,15 +1,12 @@
 -- What a run tells of a failed call: where it is told, and what the steps of an unknown commit end with.
-use Rattle.std.proofs.Common.{◌≡◌, ◌⊎◌, inl, inr, ℕ, Bool, true, false, List, [], ◌∷◌, ◌++◌, Option, Some, None, refl, sym, ap, ◌∙◌, subst, append_assoc}
-use Rattle.serde_json.specs.Data.{Data}
+use Rattle.std.proofs.Common.{◌≡◌, ◌⊎◌, inl, inr, ℕ, true, List, [], ◌∷◌, ◌++◌, Option, Some, None, sym, ap, ◌∙◌, subst, append_assoc}
 use Rattle.ice_store.specs.Given.{Gives}
 use Rattle.ice_store.specs.History.{replay, later}
 use Rattle.ice_store.proofs.HistoryLaws.{later-later}
 use Rattle.ice_store.specs.Places.{Parts}
 use Rattle.ice_store.specs.Since.{Since}
 use Rattle.ice_store.proofs.SinceLaws.{since_then}
-use Rattle.ice_store.specs.declared.faults.ReadErr.{ReadErr}
 use Rattle.ice_store.specs.declared.faults.ReadErr.TheVariants as reads
-use Rattle.ice_store.specs.declared.history.Event.{Event}
 use Rattle.ice_store.specs.declared.history.Past.{Past}
 use Rattle.ice_store.specs.declared.history.Step.{Step}
 use Rattle.ice_store.specs.declared.history.Step.TheVariants.{Create, Append, Rename, SyncNames}
@@ -21,12 +18,9 @@ use Rattle.commit_publish.specs.Steps.{IsTakenOf, step_of, steps_before}
 use Rattle.commit_publish.specs.declared.steps.PublishCall.{PublishCall}
 use Rattle.commit_publish.specs.declared.steps.PublishCall.TheVariants as asked
 use Rattle.commit_versions.specs.Opening.{IsAskedFor}
-use Rattle.commit_versions.specs.declared.types.OpenErr.{OpenErr}
 use Rattle.commit_versions.specs.declared.types.OpenErr.TheVariants as opens
 use Rattle.commit_protocol.specs.Kinds.{error_kind, is_renaming, kind_of}
-use Rattle.commit_protocol.specs.Verdicts.{IsTable}
 use Rattle.commit_protocol.specs.Written.{draft_at, version_at}
-use Rattle.commit_protocol.specs.declared.errors.Refusal.{Refusal}
 use Rattle.commit_protocol.specs.declared.errors.AttemptErr.TheVariants as attempts
 use Rattle.commit_protocol.specs.declared.errors.CommitErr.{CommitErr}
 use Rattle.commit_protocol.specs.declared.errors.CommitErr.TheVariants.{Open, Attempt, Contended, CommitUnknown}
@@ -39,7 +33,7 @@ use Rattle.upkeep_top.specs.Verdicts.{meanings_of, status_kind}
 use Rattle.upkeep_top.proofs.KindLaws.{TellsKind, tells_kind}
 use Rattle.upkeep_top.proofs.StopLaws.{asked_of, tables_are}
 use Rattle.upkeep_top.proofs.StretchLaws.{Stretch, WorkOf, leads_stretch, works_of}
-use Rattle.upkeep_top.proofs.VersionLaws.{ThePublish, Took, the_draft, the_target}
+use Rattle.upkeep_top.proofs.VersionLaws.{Took, the_draft, the_target}
 
 -- The place of a fault.
 
@@ -129,8 +123,7 @@ module _ (words : List (List ℕ)) (status : Status) (p q : Point) (r : RanAsked
       let stop = f.stopped.steps_are in
       let here = open_end (the_draft successor Drawn e.task.table now files publish) (the_target successor Drawn e.task.table now files publish) publish.bytes f.call stop.0 f.kind stop.1 (ours w.events) stop.2 in
       let at_version = subst (λ (v : ℕ). EndsOpen (version_at e.task.table v) (ours w.events)) (sym took.1.1) here in
-      let at_table = subst (λ (t : Parts). EndsOpen (version_at t version) (ours w.events)) parts.1 at_version in
-      (
+      let at_table = subst (λ (t : Parts). EndsOpen (version_at t version) (ours w.events)) parts.1 at_version in (
         r.table,
         asked_of words status p q r,
         (

@@ -12,7 +12,7 @@ use Rattle.commit_versions.specs.Opening.{open_kind}
 use Rattle.commit_versions.specs.declared.types.OpenErr.{OpenErr}
 use Rattle.commit_versions.specs.declared.types.OpenErr.TheVariants as opens
 use Rattle.commit_protocol.specs.Ends.{LeavesBy}
-use Rattle.commit_protocol.specs.Kinds.{error_kind, attempt_kind, commit_kind}
+use Rattle.commit_protocol.specs.Kinds.{error_kind, commit_kind}
 use Rattle.commit_protocol.specs.declared.errors.Refusal.{Refusal}
 use Rattle.commit_protocol.specs.declared.errors.Refusal.TheVariants as refusals
 use Rattle.commit_protocol.specs.declared.errors.AttemptErr.TheVariants as attempts
@@ -20,7 +20,7 @@ use Rattle.commit_protocol.specs.declared.errors.CommitErr.{CommitErr}
 use Rattle.commit_protocol.specs.declared.errors.CommitErr.TheVariants.{Open, Attempt, Contended, CommitUnknown}
 use Rattle.run_answers.specs.Answers.{read_status, refusal_status, open_status, status_of}
 use Rattle.run_answers.specs.declared.status.Status.{Status}
-use Rattle.run_answers.specs.declared.status.Status.TheVariants.{Done, OutFault}
+use Rattle.run_answers.specs.declared.status.Status.TheVariants.{Done}
 use Rattle.upkeep_top.specs.Points.{Point}
 use Rattle.upkeep_top.specs.Chains.{Leads}
 use Rattle.upkeep_top.specs.Runs.{IsDone, IsRefusal}

@@ -1,5 +1,5 @@
 -- Which places the steps of work leave.
-use Rattle.std.proofs.Common.{◌≡◌, ◌⊎◌, inl, inr, ℕ, suc, Bool, true, false, List, [], ◌∷◌, ◌++◌, length, Option, Some, refl, sym, ap, ◌∙◌, subst}
+use Rattle.std.proofs.Common.{◌≡◌, inl, inr, ℕ, suc, Bool, true, false, List, [], ◌∷◌, ◌++◌, length, Option, refl, sym, ap, subst}
 use Rattle.serde_json.specs.Data.{Data}
 use Rattle.ice_store.specs.Places.{Parts}
 use Rattle.ice_store.specs.Calls.{Rose}

@@ -1,5 +1,5 @@
 -- From statements to a run: rows, completeness, counts, marks, and what every stop leaves.
-use Rattle.std.proofs.Common.{◌≡◌, ◌⊎◌, inl, inr, ℕ, false, List, [], Option, Some, None, refl, sym, ap, ◌∙◌, subst}
+use Rattle.std.proofs.Common.{◌≡◌, ◌⊎◌, inl, inr, ℕ, List, [], Option, Some, None, sym, ap, ◌∙◌, subst}
 use Rattle.ice_store.specs.Calls.{Rose}
 use Rattle.ice_store.specs.Given.{Gives}
 use Rattle.ice_store.specs.Others.{WhereTold}
@@ -21,9 +21,9 @@ use Rattle.commit_protocol.specs.declared.errors.AttemptErr.TheVariants as attem
 use Rattle.commit_protocol.specs.declared.errors.CommitErr.{CommitErr}
 use Rattle.commit_protocol.specs.declared.errors.CommitErr.TheVariants.{Open, Attempt, Contended, CommitUnknown as Unknown}
 use Rattle.run_answers.specs.declared.status.Status.{Status}
-use Rattle.run_answers.specs.declared.status.Status.TheVariants.{Done, BadStatement, StoreFault, CommitUnknown, OutFault, OutOfMemory}
+use Rattle.run_answers.specs.declared.status.Status.TheVariants.{Done, BadStatement, StoreFault, CommitUnknown, OutOfMemory}
 use Rattle.upkeep_top.specs.Points.{Point}
-use Rattle.upkeep_top.specs.Runs.{IsRefusal, RanAsked, RunsBy, Runs, TellsBadArgument, Row, LastRow, ComesExactly, AsksNothing, IsComplete, IsSafeRun, KeepsPrefix, KeepsFiles, EachSucceeds, TellsVersions, LeavesPlaces, TellsFaultAt, EndsUnknown, MarksRun, MayLeave}
+use Rattle.upkeep_top.specs.Runs.{IsRefusal, RanAsked, RunsBy, Runs, TellsBadArgument, Row, ComesExactly, AsksNothing, IsComplete, IsSafeRun, KeepsPrefix, KeepsFiles, EachSucceeds, TellsVersions, LeavesPlaces, TellsFaultAt, EndsUnknown, MarksRun, MayLeave}
 use Rattle.upkeep_top.specs.Statements.{AnswersBy, Ends, Nobody, Any, IsSafeFor, OutputCounts}
 use Rattle.upkeep_top.specs.Verdicts.{Verdict, IsFree, error_status, status_kind}
 use Rattle.upkeep_top.specs.Words.{RefusesWords}
@@ -37,7 +37,7 @@ use Rattle.upkeep_top.proofs.StopLaws.{DidOf, asked_of, safe_run, tables_are}
 use Rattle.upkeep_top.proofs.StretchLaws.{places_by, versions_by}
 use Rattle.upkeep_top.proofs.SuccessorLaws.{each_succeeds}
 use Rattle.upkeep_top.proofs.TaskSteps.{rests_when}
-use Rattle.upkeep_top.proofs.VerdictLaws.{TellsError, free_is, is_free, one_error, tells_error}
+use Rattle.upkeep_top.proofs.VerdictLaws.{TellsError, free_is, one_error, tells_error}
 use Rattle.upkeep_top.proofs.WordLaws.{one_refusal, never_refused, one_table}
 
 -- Rows.
@@ -132,7 +132,7 @@ module _ (words : List (List ℕ)) (status : Status) (p q : Point) where
         r.table,
         asked_of words status p q r,
         subst (λ (x : Parts). Marks x (status_kind status) p.halted q.halted q.past) (tables_are words status p q r).1
-        (subst (λ (h : Option Failure). Marks r.ended.task.table (status_kind status) h q.halted q.past) (kept r).halted here),
+            (subst (λ (h : Option Failure). Marks r.ended.task.table (status_kind status) h q.halted q.past) (kept r).halted here),
       )
 
   -- free statuses, where no count rose

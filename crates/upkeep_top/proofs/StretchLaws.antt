@@ -1,5 +1,5 @@
 -- Which versions a run tells of, and which places it leaves.
-use Rattle.std.proofs.Common.{◌≡◌, ◌⊎◌, inl, inr, ℕ, suc, ◌+◌, List, [], ◌∷◌, ◌++◌, length, Option, Some, None, refl, sym, ap, ◌∙◌, subst, arith, append-nil, append_assoc, length-append}
+use Rattle.std.proofs.Common.{◌≡◌, inl, inr, ℕ, suc, ◌+◌, List, [], ◌∷◌, ◌++◌, length, Option, Some, None, refl, sym, ap, ◌∙◌, subst, arith, append-nil, append_assoc, length-append}
 use Rattle.ice_store.specs.Places.{Parts}
 use Rattle.ice_store.specs.Calls.{Rose}
 use Rattle.ice_store.specs.Given.{Gives}
@@ -22,20 +22,20 @@ use Rattle.commit_publish.specs.Kinds.{Kind, Counts, Failing}
 use Rattle.commit_publish.specs.Left.{IsLeft, IsMore, made_by}
 use Rattle.commit_publish.specs.Steps.{Anything}
 use Rattle.commit_protocol.specs.Ends.{Works}
-use Rattle.commit_protocol.specs.Kinds.{End, error_kind, kind_of}
+use Rattle.commit_protocol.specs.Kinds.{error_kind, kind_of}
 use Rattle.commit_protocol.specs.Verdicts.{IsTable}
 use Rattle.commit_protocol.specs.declared.errors.CommitErr.{CommitErr}
 use Rattle.run_answers.specs.declared.status.Status.{Status}
 use Rattle.run_answers.specs.declared.status.Status.TheVariants.{Done}
 use Rattle.upkeep_top.specs.Chains.{Leads}
 use Rattle.upkeep_top.specs.Points.{Point}
-use Rattle.upkeep_top.specs.Promises.{Renamed, Renames, ToldBy, all_settled, renamed_by}
-use Rattle.upkeep_top.specs.Runs.{IsDone, IsRefusal, RanAsked, RunsBy, AskOf, TellsVersions, LeavesPlaces}
+use Rattle.upkeep_top.specs.Promises.{Renamed, ToldBy, all_settled, renamed_by}
+use Rattle.upkeep_top.specs.Runs.{IsDone, RunsBy, TellsVersions, LeavesPlaces}
 use Rattle.upkeep_top.specs.Statements.{Ends}
 use Rattle.upkeep_top.specs.Verdicts.{meanings_of, status_kind}
 use Rattle.upkeep_top.specs.Words.{AreOf}
 use Rattle.upkeep_top.specs.declared.task.Task.{Task}
-use Rattle.upkeep_top.proofs.KindLaws.{TellsKind, done_kind, leads_kept, refusal_kind, tells_kind}
+use Rattle.upkeep_top.proofs.KindLaws.{TellsKind, done_kind, leads_kept, tells_kind}
 use Rattle.upkeep_top.proofs.LeftLaws.{one_publish, took_left}
 use Rattle.upkeep_top.proofs.StopLaws.{DidOf, asked_of, tables_are, told_any}
 use Rattle.upkeep_top.proofs.VersionLaws.{IsTold, Took, done_told, renamed_append, the_draft, the_target, took_told}
@@ -179,8 +179,8 @@ module _ (words : List (List ℕ)) (status : Status) (p q : Point) where
       let parts = tables_are words status p q r in
       let number = number_in r.table in
       let last : Since e.from.past q.past (LastTold number (status_kind status) e.from.committed q.committed) =
-          subst (λ (x : Parts). Since e.from.past q.past (LastTold (number_in x) (status_kind status) e.from.committed q.committed)) parts.1
-          (since_turned e.from.past q.past (WorkOf e.task status e.from q e.ends) (LastTold (number_in e.task.table) (status_kind status) e.from.committed q.committed) (works_of e.task status e.from q e.ends) (last_told e.task status e.from q e.ends)) in
+      subst (λ (x : Parts). Since e.from.past q.past (LastTold (number_in x) (status_kind status) e.from.committed q.committed)) parts.1
+      (since_turned e.from.past q.past (WorkOf e.task status e.from q e.ends) (LastTold (number_in e.task.table) (status_kind status) e.from.committed q.committed) (works_of e.task status e.from q e.ends) (last_told e.task status e.from q e.ends)) in
       since_then p.past e.from.past q.past (Stretch number p.committed e.from.committed) (LastTold number (status_kind status) e.from.committed q.committed) (TellsVersions words (status_kind status) q.committed)
       (leads_stretch r.table e.before p e.from parts.0 e.led) last
       (λ old mid new s l.

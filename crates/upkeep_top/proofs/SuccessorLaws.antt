@@ -1,7 +1,6 @@
 -- Each version that a run tells of is a successor of the one before it.
 use Rattle.std.proofs.Common.{◌≡◌, inl, inr, ℕ, List, [], ◌∷◌, ◌++◌, Contains, refl, sym, ap, ◌∙◌, subst, arith, append-nil, append_assoc}
 use Rattle.std.proofs.lemmas.List.Elements.{Contains-append_left, Contains-append_right}
-use Rattle.ice_store.specs.Given.{Gives}
 use Rattle.ice_store.specs.Places.{Parts}
 use Rattle.ice_store.specs.History.{later}
 use Rattle.ice_store.proofs.HistoryLaws.{later-later}
@@ -130,11 +129,11 @@ module _ (words : List (List ℕ)) where
     ends_added : (t : Task) (status : Status) (p q : Point) → Contains tasks t → t.table ≡ table → Ends t status p q → Since p.past q.past (Added p.committed q.committed)
     ends_added t status p q among of_table e = since_turned p.past q.past (DidOf t status p q e) (Added p.committed q.committed) e.did
         (λ old now d. record {
-        then = (d.safe.events, d.safe.is);
-        versions = e.end.versions;
-        is = e.committed;
-        each = each_of t e.now e.end.versions old now among of_table (d.safe.events, d.safe.is) d.succeed;
-      })
+          then = (d.safe.events, d.safe.is);
+          versions = e.end.versions;
+          is = e.committed;
+          each = each_of t e.now e.end.versions old now among of_table (d.safe.events, d.safe.is) d.succeed;
+        })
 
     none_added : (committed : List ℕ) (old : Past) → Added committed committed old old
     none_added committed old = record { then = later_none old; versions = []; is = sym (append-nil committed); each = tt }

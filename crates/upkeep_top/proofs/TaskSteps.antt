@@ -14,7 +14,7 @@ use Rattle.run_answers.specs.declared.status.Status.{Status}
 use Rattle.run_answers.specs.declared.status.Status.TheVariants as statuses
 use Rattle.run_answers.specs.declared.status.Status.TheVariants.{Done}
 use Rattle.upkeep_top.specs.Chains.{Leads}
-use Rattle.upkeep_top.specs.Points.{Notes, Objects, Point, Tells, at, moment}
+use Rattle.upkeep_top.specs.Points.{Notes, Point, Tells, at, moment}
 use Rattle.upkeep_top.specs.Runs.{Ended, IsDone, IsRefusal, Runs}
 use Rattle.upkeep_top.specs.Statements.{AnswersBy, Did, Ends, RestsBy}
 use Rattle.upkeep_top.specs.Words.{Ask}

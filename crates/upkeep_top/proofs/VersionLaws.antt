@@ -1,16 +1,15 @@
 -- To which versions the steps of work rename files, and which of them have a sync behind.
-use Rattle.std.proofs.Common.{◌≡◌, ◌⊎◌, inl, inr, ℕ, zero, suc, ◌+◌, ◌<◌, ◌≤◌, ◌^◌, false, true, List, [], ◌∷◌, ◌++◌, take, refl, sym, ap, ◌∙◌, subst, arith, append-nil, append_assoc}
+use Rattle.std.proofs.Common.{◌≡◌, ◌⊎◌, inl, inr, ℕ, suc, ◌+◌, ◌<◌, false, true, List, [], ◌∷◌, ◌++◌, refl, sym, ap, ◌∙◌, subst, arith, append-nil, append_assoc}
 use Rattle.serde_json.specs.Data.{Data}
 use Rattle.ice_store.specs.Places.{Parts}
 use Rattle.ice_store.specs.declared.history.Held.{Held}
 use Rattle.ice_store.specs.declared.history.Step.{Step}
-use Rattle.ice_store.specs.declared.history.Step.TheVariants.{Create, Append, Seal, Rename, Remove, SyncNames}
+use Rattle.ice_store.specs.declared.history.Step.TheVariants.{Create, SyncNames}
 use Rattle.ice_store.specs.declared.history.StoreCall.{StoreCall}
-use Rattle.ice_store.specs.declared.store.StoreErr.TheVariants.{Failed, Memory}
 use Rattle.commit_history.specs.Versions.{folder, number_in}
 use Rattle.commit_publish.specs.Kinds as kinds
 use Rattle.commit_publish.specs.Kinds.{Kind}
-use Rattle.commit_publish.specs.Steps.{IsTakenOf, StopsAt, step_of, steps_before, publish_plan, lost_plan}
+use Rattle.commit_publish.specs.Steps.{IsTakenOf, step_of, steps_before, publish_plan, lost_plan}
 use Rattle.commit_publish.specs.declared.steps.PublishCall.{PublishCall}
 use Rattle.commit_publish.specs.declared.steps.PublishCall.TheVariants as asked
 use Rattle.commit_versions.specs.Names.{version_name}

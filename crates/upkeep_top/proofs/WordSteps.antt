@@ -1,5 +1,5 @@
 -- Words are read one by one: what the loops over them keep.
-use Rattle.std.proofs.Common.{◌≡◌, ◌⊎◌, inl, inr, ℕ, ℤ, suc, ◌+◌, ◌<◌, ◌≤◌, List, [], ◌∷◌, ◌++◌, length, take, drop, get_or, codes, Option, Err, refl, sym, ap, ◌∙◌, subst, arith}
+use Rattle.std.proofs.Common.{◌≡◌, ◌⊎◌, inl, inr, ℕ, suc, ◌+◌, ◌<◌, ◌≤◌, List, [], ◌∷◌, ◌++◌, length, take, drop, get_or, codes, refl, sym, ap, ◌∙◌, subst, arith}
 use Rattle.std.proofs.Math.Seq.{split_at, take-suc}
 use Rattle.std.proofs.lemmas.List.{length-take-le}
 use Rattle.ice_store.specs.Places.{Parts}
@@ -7,12 +7,6 @@ use Rattle.run_answers.specs.declared.status.Status.{Status}
 use Rattle.run_answers.specs.declared.status.Status.TheVariants.{BadArgument, OutOfMemory}
 use Rattle.upkeep_top.specs.Words.{AsksFor, IsBadWord, AskFrom, AreOf, Ask, HasBadWord, HasOtherTable, IsOther, AreOfOneTable, TablesRefuse}
 use Rattle.upkeep_top.specs.Runs.{IsRefusal}
-use Rattle.upkeep_top.specs.Commands.{task_of}
-use Rattle.call_arguments.specs.Table.{procedure_name}
-use Rattle.call_syntax.specs.Commands.{procedure_of}
-use Rattle.call_syntax.specs.declared.command.Command.{Command}
-use Rattle.call_syntax.specs.declared.command.Command.TheVariants as commands
-use Rattle.call_syntax.specs.declared.command.Target.{Target}
 use Rattle.upkeep_top.specs.declared.task.Task.{Task}
 
 -- Statements.
@@ -112,19 +106,3 @@ refused_tables words tasks status ask (inr (inr m)) = inr m
 pub refused_words : (words : List (List ℕ)) (status : Status) → HasBadWord words status ⊎ (status ≡ OutOfMemory) → IsRefusal words status
 refused_words words status (inl b) = inl (inr (inl b))
 refused_words words status (inr m) = inr m
-
--- A command that isn't built.
-
-pub unbuilt : (word : ℕ) (command : Command) → ((t : Parts) (id : ℤ) → command ≡ commands.Rollback t id → ⊥) → ((t : Parts) (x : Target) → command ≡ commands.SetCurrent t x → ⊥)
-    → ((t : Parts) (b to : List ℕ) → command ≡ commands.FastForward t b to → ⊥) → ((t : Parts) (o : Option ℤ) → command ≡ commands.Ancestors t o → ⊥) → task_of word command ≡ Err (procedure_name (procedure_of command))
-unbuilt word (commands.Rollback t id) a b c d = absurd (a t id refl)
-unbuilt word (commands.SetCurrent t x) a b c d = absurd (b t x refl)
-unbuilt word (commands.FastForward t x to) a b c d = absurd (c t x to refl)
-unbuilt word (commands.Ancestors t o) a b c d = absurd (d t o refl)
-unbuilt word (commands.Expire t older last ids) a b c d = refl
-unbuilt word (commands.RemoveOrphans t older location dry) a b c d = refl
-unbuilt word (commands.RewriteData t sort order options filter) a b c d = refl
-unbuilt word (commands.RewriteManifests t spec) a b c d = refl
-unbuilt word (commands.RewriteDeletes t options filter) a b c d = refl
-unbuilt word (commands.Relocate t source target start end staging) a b c d = refl
-unbuilt word (commands.Generate t number rows) a b c d = refl
