@@ -124,7 +124,27 @@ fn shown_image<N>(store: &MemStore<N>, table: &Place) -> Result<String, Fail> {
     }
 }
 
-// the answer, the versions that are told as committed, how many places are left, what a stop leaves, and all steps
+// the answer, the versions that are told as committed, and how many places are left
+fn shown_end<N>(alloc: Global, raced: &Raced<N>) -> Result<String, AllocError> {
+    let answer = shown_answer(alloc, &raced.answer)?;
+    let committed = shown_versions(alloc, &raced.log.committed)?;
+    let left = raced.log.left.len();
+    format!(in alloc; "{answer}: committed{committed}, left {left}")
+}
+
+// what a stop leaves, and all steps
+fn shown_store<N>(store: &MemStore<N>, table: &Place) -> Result<String, Fail> {
+    let image = shown_image(store, table)?;
+    let steps = shown_steps(store.alloc, store.past().events.inner())?;
+    Ok(format!(in store.alloc; "{image};{steps}")?)
+}
+
+fn shown<N>(alloc: Global, raced: &Raced<N>, table: &Place) -> Result<String, Fail> {
+    let end = shown_end(alloc, raced)?;
+    let left = shown_store(&raced.store, table)?;
+    Ok(format!(in alloc; "{end}; {left}")?)
+}
+
 fn outcome<N: Neighbour<Writers> + Drop>(
     alloc: Global,
     table: &Place,
@@ -133,12 +153,7 @@ fn outcome<N: Neighbour<Writers> + Drop>(
     requires { (N.manners neighbour).table ≡ table.now }
 {
     let raced = commit_beside(alloc, table, neighbour)?;
-    let answer = shown_answer(alloc, &raced.answer)?;
-    let committed = shown_versions(alloc, &raced.log.committed)?;
-    let left = raced.log.left.len();
-    let image = shown_image(&raced.store, table)?;
-    let steps = shown_steps(alloc, raced.store.past().events.inner())?;
-    Ok(format!(in alloc; "{answer}: committed{committed}, left {left}; {image};{steps}")?)
+    shown(alloc, &raced, table)
 }
 
 #[test]
