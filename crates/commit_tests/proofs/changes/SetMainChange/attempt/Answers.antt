@@ -1,7 +1,9 @@
-use Rattle.std.proofs.Common.{[], sym, subst}
+use Rattle.std.proofs.Common.{◌≡◌, ◌∙◌, ℤ, [], codes, sym, ap, subst, FitsSigned, w64, rules}
+use Rattle.std.proofs.lemmas.Int.{to_z-of_z}
 use Rattle.serde_json.specs.Data.{Data}
 use Rattle.serde_json.specs.View.{view}
 use Rattle.ice_store.proofs.SinceLaws.{since_start}
+use Rattle.table_metadata.specs.Edits.{with_ref}
 use Rattle.commit_history.specs.Runs.{Ran}
 use Rattle.commit_history.specs.Versions.{number_in}
 use Rattle.commit_history.proofs.Running.{begins}
@@ -33,5 +35,8 @@ returns-clause-told g c =
 pub returns-clause-built : goal.returns-clause-built
 returns-clause-built g c =
     let tree = view c.args.meta in
-    let is = c.in_ok-built.ensures.built in
-    ((c.args.now, is), subst (λ (d : Data). StaysTable tree d) (sym is) (stays_table c.args.self.now.id c.args.now tree))
+    let id = c.args.self.now.id in
+    let fits : FitsSigned w64 id = search rules in
+    let is : view c.in_ok-built.built ≡ with_ref (codes "main") id c.args.now tree =
+    c.in_ok-built.ensures.built ∙ ap (λ (z : ℤ). with_ref (codes "main") z c.args.now tree) (to_z-of_z w64 id fits) in
+    ((c.args.now, is), subst (λ (d : Data). StaysTable tree d) (sym is) (stays_table id c.args.now tree))
