@@ -1,9 +1,9 @@
 -- A publish of another writer is allowed, step by step.
-use Rattle.std.proofs.Common.{◌≡◌, ℕ, ◌+◌, ◌<◌, List, [], ◌∷◌, Option, Some, None, Bor, Result, Ok, Err, IfOk, false, true, is_some, refl, sym, ap, ◌∙◌, inr, arith}
+use Rattle.std.proofs.Common.{◌≡◌, ℕ, ◌+◌, ◌<◌, List, [], ◌∷◌, Option, Some, None, Bor, Result, Ok, Err, IfOk, false, is_some, refl, sym, ap, ◌∙◌, inr, arith}
 use Rattle.std.specs.Option.{option_copied}
 use Rattle.ice_store.specs.Places.{Parts}
 use Rattle.ice_store.specs.Files.{find, is_named, renamed, moved}
-use Rattle.ice_store.specs.History.{Disk, later, replay, files_after, new_file, appended, sealed}
+use Rattle.ice_store.specs.History.{Disk, later, files_after, new_file, appended, sealed}
 use Rattle.ice_store.specs.Others.{Allowed}
 use Rattle.ice_store.proofs.FileLaws.{find_put_same, find_put_other, find_changed_same, find_changed_other, find_renamed_to}
 use Rattle.ice_store.proofs.HistoryLaws.{replay-later}
@@ -15,8 +15,8 @@ use Rattle.ice_store.specs.declared.history.Step.TheVariants.{Create, Append, Se
 use Rattle.ice_store.specs.declared.history.Who.TheVariants.{Them}
 use Rattle.store_memory.specs.Neighbours.{by_them, next_moment}
 use Rattle.commit_history.specs.Readings.{Reading, IsLocal}
-use Rattle.commit_history.specs.Tables.{version, table, sealed_at, sealed_bytes, Whole, IsNumbering}
-use Rattle.commit_history.specs.Mannered.{IsTheirs, IsNext, AllowsStep, files_of}
+use Rattle.commit_history.specs.Tables.{version, table, sealed_at, sealed_bytes, IsNumbering}
+use Rattle.commit_history.specs.Mannered.{IsNext, AllowsStep, files_of}
 use Rattle.commit_history.proofs.Agreeing.{version_alike, table_is}
 use Rattle.commit_history.proofs.Manners.{rename_rises}
 use Rattle.commit_tests.specs.Publishing.{publishes}
