@@ -35,7 +35,7 @@ fn told<T, E: Debug + Drop>(answer: std::result::Result<T, E>) -> Result<T> {
 
 pub fn open(alloc: Global, bytes: &[u8]) -> Result<Container> {
     let header = told(read_header(alloc, bytes))?;
-    let tree = told(Value::from_slice(alloc, header.schema_text.inner().as_slice()))?;
+    let tree = told(Value::from_str(alloc, header.schema_text.as_str()))?;
     let schema = told(read_schema(alloc, &tree))?;
     Ok(Container { header, schema })
 }

@@ -67,7 +67,7 @@ fn whole_header(alloc: Global, bytes: &[u8]) -> Result<Header, ContainerErr>
     let (_, from) = magic(bytes)?;
     let (entries, from) = read_entries(alloc, bytes, from)?;
     let schema = schema_of(&entries, bytes.len())?;
-    let schema_text = Text::new(Vec::from_slice(alloc, schema)?);
+    let schema_text = Text::new(String::from_str(alloc, schema)?);
     let (found, end) = part(bytes, from, 16)?;
     let sync = marker(found);
     let meta = pairs_of(alloc, entries)?;

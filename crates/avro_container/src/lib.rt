@@ -18,6 +18,7 @@ pub use header::{Header, headers_are_apart, read_header};
 pub use long::{
     longs_are_apart, read_long, write_long, written_long_is_shortest, written_long_spells,
 };
+pub use parts::{Head, block_head, is_sized};
 pub use text::{Bytes, MetaList, Text};
 pub use writing::{keys_are_text, write_header};
 

@@ -9,7 +9,7 @@ ghost use Rattle.avro_container.specs.ContainerReading.{Makes, Adds, Judges, cau
 ghost use Rattle.avro_container.specs.declared.metadata.Entry.{Entry};
 
 use crate::fault::{BlockErr, ContainerCause, ContainerErr};
-use crate::parts::{blob, block_head, is_sized, is_text};
+use crate::parts::{blob, block_head, is_sized, text_of};
 use crate::text::{Bytes, MetaList, Text};
 use std::alloc::{AllocError, Global};
 
@@ -32,14 +32,14 @@ fn read_string(alloc: Global, bytes: &[u8], at: usize) -> Result<(Text, usize), 
     requires { at ≤ length bytes.now }
     ensures { Makes (λ t. t) bytes.now result (string_at causes (drop at bytes.now)) }
 {
-    let (text, end) = blob(bytes, at)?;
-    if !is_text(text) {
+    let (found, end) = blob(bytes, at)?;
+    let Some(text) = text_of(found) else {
         return Err(ContainerErr::Bad {
             at,
             cause: ContainerCause::BadUtf8,
         });
-    }
-    Ok((Text::new(Vec::from_slice(alloc, text)?), end))
+    };
+    Ok((Text::new(String::from_str(alloc, text)?), end))
 }
 
 #[tactic(auto, using(crate::proofs::Entries::place_is), unfolding(crate::specs::ContainerReading::entry_at))]
@@ -150,7 +150,7 @@ fn last_of<'a>(entries: &'a [Entry], key: &[u8]) -> Option<&'a Entry>
     entries
         .iter()
         .rev()
-        .find(|entry| entry.key.inner().as_slice() == key)
+        .find(|entry| entry.key.as_str().as_bytes() == key)
 }
 
 /// What is wrong with an entry's value. Its place lies within the bytes, of which there are `len`.
@@ -167,7 +167,7 @@ fn fault_of(entry: &Entry, len: usize, cause: ContainerCause) -> BlockErr
 
 /// The schema's text. What is wrong with codec and schema is looked at once the whole map was read.
 #[tactic(auto, unfolding(crate::specs::ContainerReading::schema_of))]
-pub(crate) fn schema_of(entries: &[Entry], len: usize) -> Result<&[u8], BlockErr>
+pub(crate) fn schema_of(entries: &[Entry], len: usize) -> Result<&str, BlockErr>
     requires { 4 ≤ len }
     ensures { Judges len result (schema_of len entries.now) }
 {
@@ -177,15 +177,14 @@ pub(crate) fn schema_of(entries: &[Entry], len: usize) -> Result<&[u8], BlockErr
             cause: ContainerCause::NoSchema,
         });
     };
-    let text = schema.value.inner().as_slice();
-    let is_utf8 = is_text(text);
+    let text = text_of(schema.value.inner().as_slice());
     if let Some(codec) = last_of(entries, CODEC) {
-        if codec.value.inner().as_slice() != NO_CODEC && (is_utf8 || codec.at < schema.at) {
+        if codec.value.inner().as_slice() != NO_CODEC && (text.is_some() || codec.at < schema.at) {
             return Err(fault_of(codec, len, ContainerCause::Codec));
         }
     }
-    if !is_utf8 {
+    let Some(text) = text else {
         return Err(fault_of(schema, len, ContainerCause::BadUtf8));
-    }
+    };
     Ok(text)
 }

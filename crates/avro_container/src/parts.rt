@@ -1,6 +1,6 @@
 //! The parts of which a container is made, read without taking memory.
 
-ghost use Rattle.std.specs.Prelude.{◌≡◌, ◌≤◌, ◌+◌, length, drop, IfOk, slice_range};
+ghost use Rattle.std.specs.Prelude.{◌≡◌, ◌≤◌, ◌+◌, length, drop, IfOk, MatchOption, true, false, slice_range};
 ghost use Rattle.std.specs.Str.{is_utf8};
 ghost use Rattle.avro_container.specs.Reading.{number_at, length_at, bytes_at, blob_at, head_at, is_size};
 ghost use Rattle.avro_container.specs.ContainerReading.{Gives, causes};
@@ -11,7 +11,7 @@ use crate::long::read_long;
 
 /// What the head of a block of items says: their count, and their number of bytes where it states one.
 #[derive(Clone, Copy)]
-pub(crate) struct Head {
+pub struct Head {
     pub count: u64,
     pub size: Option<i64>,
 }
@@ -77,6 +77,16 @@ pub(crate) fn blob(bytes: &[u8], at: usize) -> Result<(&[u8], usize), BlockErr>
     Ok((found, end))
 }
 
+/// The bytes as a text, where they are UTF-8.
+pub(crate) fn text_of(bytes: &[u8]) -> Option<&str>
+    ensures { MatchOption result (is_utf8 bytes.now ≡ false) (λ t. (is_utf8 bytes.now ≡ true) × (t.now ≡ bytes.now)) }
+{
+    match str::from_utf8(bytes) {
+        Ok(text) => Some(text),
+        Err(_) => None,
+    }
+}
+
 pub(crate) fn is_text(bytes: &[u8]) -> bool
     ensures { result ≡ is_utf8 bytes.now }
 {
@@ -88,7 +98,7 @@ pub(crate) fn is_text(bytes: &[u8]) -> bool
 
 /// The head of a block of which no more than `room` items may come.
 #[tactic(auto, unfolding(crate::specs::Reading::head_at))]
-pub(crate) fn block_head(bytes: &[u8], at: usize, room: u64) -> Result<(Head, usize), BlockErr>
+pub fn block_head(bytes: &[u8], at: usize, room: u64) -> Result<(Head, usize), BlockErr>
     requires { at ≤ length bytes.now }
     ensures within { IfOk result (λ x. x.0.count ≤ room) }
     ensures value { Gives (λ (h : Head). (h.count, h.size)) bytes.now result (head_at causes room (drop at bytes.now)) }
@@ -114,7 +124,8 @@ pub(crate) fn block_head(bytes: &[u8], at: usize, room: u64) -> Result<(Head, us
     ))
 }
 
-pub(crate) fn is_sized(size: Option<i64>, len: usize) -> bool
+/// Whether the size that a block states, if it states one, is this length.
+pub fn is_sized(size: Option<i64>, len: usize) -> bool
     ensures { result ≡ is_size size len }
 {
     match size {

@@ -14,10 +14,10 @@ const TWO_LONGS: &[u8] = b"Obj\x01\x04\x14avro.codec\x08null\x16avro.schema\x0c\
 
 const SYNC: [u8; 16] = [0, 1, 2, 3, 4, 5, 6, 7, 8, 9, 10, 11, 12, 13, 14, 15];
 
-fn text(alloc: Global, of: &[u8]) -> Result<Text, AllocError>
+fn text(alloc: Global, of: &str) -> Result<Text, AllocError>
     ensures { IfOk result (λ t. t ≡ of.now) }
 {
-    Ok(Text::new(Vec::from_slice(alloc, of)?))
+    Ok(Text::new(String::from_str(alloc, of)?))
 }
 
 fn bytes(alloc: Global, of: &[u8]) -> Result<Bytes, AllocError>
@@ -31,7 +31,7 @@ fn schema_alone(alloc: Global) -> Result<MetaList, AllocError>
     ensures { IfOk result (λ m. m ≡ (codes "avro.schema", 34 ∷ 108 ∷ 111 ∷ 110 ∷ 103 ∷ 34 ∷ []) ∷ []) }
 {
     let mut pairs = Vec::new(alloc);
-    pairs.push((text(alloc, b"avro.schema")?, bytes(alloc, b"\"long\"")?))?;
+    pairs.push((text(alloc, "avro.schema")?, bytes(alloc, b"\"long\"")?))?;
     Ok(MetaList::new(pairs))
 }
 
@@ -106,15 +106,12 @@ fn container_of_two_longs(rt: HostRuntime) -> Result<(), Fail> {
     assert_eq!(rt; to.as_slice(), TWO_LONGS);
 
     let header = read_header(alloc, TWO_LONGS)?;
-    assert_eq!(rt;
-        header.schema_text.inner().as_slice(),
-        b"\"long\"".as_slice()
-    );
+    assert_eq!(rt; header.schema_text.as_str(), "\"long\"");
     assert_eq!(rt; header.sync, SYNC);
     assert_eq!(rt; header.end, 57);
     let pairs = header.meta.inner();
     assert_eq!(rt; pairs.len(), 2);
-    assert_eq!(rt; pairs[0].0.inner().as_slice(), b"avro.codec".as_slice());
+    assert_eq!(rt; pairs[0].0.as_str(), "avro.codec");
     assert_eq!(rt; pairs[0].1.inner().as_slice(), b"null".as_slice());
     let block = next_block(&header, TWO_LONGS, 57);
     assert_eq!(rt;
@@ -279,7 +276,7 @@ fn last_of_equal_keys(rt: HostRuntime) -> Result<(), Fail> {
     let of = b"Obj\x01\x06\x16avro.schema\x02a\x14avro.codec\x08null\x16avro.schema\x02b\x00\
 \x00\x01\x02\x03\x04\x05\x06\x07\x08\x09\x0a\x0b\x0c\x0d\x0e\x0f";
     let header = read_header(rt.alloc(), of)?;
-    assert_eq!(rt; header.schema_text.inner().as_slice(), b"b".as_slice());
+    assert_eq!(rt; header.schema_text.as_str(), "b");
     assert_eq!(rt; header.meta.inner().len(), 3, "all stay");
     Ok(())
 }

@@ -1,41 +1,47 @@
 //! The small types of which a header is made. Contracts see each as a list.
 
-ghost use Rattle.std.specs.Prelude.{◌≡◌, length};
+ghost use Rattle.std.specs.Prelude.{◌≡◌, string_bytes};
 
 use std::marker::Model;
 
-/// A text, seen as its bytes.
+/// A text in UTF-8, seen by contracts as its bytes.
 #[derive(Debug, Drop)]
 pub struct Text {
-    inner: Vec<u8>,
+    inner: String,
 }
 
 impl Model for Text {
-    ghost use Rattle.std.specs.Prelude.{ℕ, List};
+    ghost use Rattle.std.specs.Prelude.{ℕ, List, string_bytes};
 
     ghost Value = { List ℕ };
 
-    ghost view = { λ t. t.inner.items };
+    ghost view = { λ t. string_bytes t.inner };
 }
 
 impl Text {
-    pub fn new(inner: Vec<u8>) -> Text
-        ensures { result ≡ inner.items }
+    pub fn new(inner: String) -> Text
+        ensures { result ≡ string_bytes inner }
     {
         Text { inner }
     }
 
-    pub fn inner(&self) -> &Vec<u8>
-        ensures { result.now.items ≡ self.now }
+    pub fn inner(&self) -> &String
+        ensures { string_bytes result.now ≡ self.now }
     {
         &self.inner
     }
 
-    pub fn into_inner(self) -> Vec<u8>
-        ensures { result.items ≡ self }
+    pub fn into_inner(self) -> String
+        ensures { string_bytes result ≡ self }
     {
         let Text { inner } = self;
         inner
+    }
+
+    pub fn as_str(&self) -> &str
+        ensures { result.now ≡ self.now }
+    {
+        self.inner.as_str()
     }
 }
 

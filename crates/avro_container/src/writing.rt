@@ -56,7 +56,7 @@ fn names_codec(meta: &MetaList) -> bool
 {
     meta.inner()
         .iter()
-        .any(|pair| pair.0.inner().as_slice() == CODEC)
+        .any(|pair| pair.0.as_str().as_bytes() == CODEC)
 }
 
 /// The pairs with a codec, which is `null` where none is named.
@@ -73,7 +73,7 @@ fn lent_pairs<'a>(alloc: Global, meta: &'a MetaList) -> Result<Vec<LentPair<'a>>
     }
     for pair in meta.inner() {
         pairs.push(LentPair {
-            key: pair.0.inner().as_slice(),
+            key: pair.0.as_str().as_bytes(),
             value: pair.1.inner().as_slice(),
         })?;
     }
@@ -124,7 +124,7 @@ fn all_keys_pass(meta: &MetaList) -> bool
 {
     meta.inner()
         .iter()
-        .all(|pair| is_text(pair.0.inner().as_slice()))
+        .all(|pair| is_text(pair.0.as_str().as_bytes()))
 }
 
 /// Writes a header at the end: the metadata in one block, in the byte order of their keys, with the codec `null`.

@@ -1,4 +1,5 @@
 pub mod Schemas
+pub mod NoBytes
 pub mod Puts
 pub mod Carrying
 pub mod Found

@@ -1,11 +1,9 @@
 -- Fields and branches of a schema, one at a time.
-use Rattle.std.proofs.Common.{◌≡◌, ℕ, zero, suc, ◌+◌, ◌<◌, List, [], ◌∷◌, length, drop, map, get_or, Result, Ok, refl, sym, ap, ◌∙◌, arith}
+use Rattle.std.proofs.Common.{◌≡◌, ℕ, zero, suc, ◌+◌, ◌<◌, List, [], ◌∷◌, length, drop, map, get_or, refl, ap, ◌∙◌, arith}
 use Rattle.avro_schema.specs.declared.schema.Schema.{Schema}
 use Rattle.avro_schema.specs.declared.schema.Field.{Field, fold_out-Field}
 use Rattle.avro_schema.specs.Form.{Form, Forms, form_of, field_form, forms_of, form_step, field_step}
-use Rattle.avro_container.specs.Reading.{Fault, ahead, end_of}
-use Rattle.avro_container.proofs.Ends.{end-ahead}
-use Rattle.avro_pieces.specs.declared.fault.DatumCause.{DatumCause}
+use Rattle.avro_container.specs.Reading.{ahead}
 use Rattle.avro_datum.specs.Reading.{read, read_all, read_nth, count_of}
 
 pub field_form-schema : (f : Field) → field_form f ≡ form_of f.schema
@@ -19,11 +17,6 @@ pub fields_next : (fs : List Field) (i : ℕ) (f : Field) (bytes : List ℕ) →
     → read_all (forms (drop i fs)) bytes ≡ ahead (read (form_of f.schema) bytes) (read_all (forms (drop (i + 1) fs)))
 unfolding read
 fields_next fs i f bytes e = ap (λ gs. read_all (forms gs) bytes) e ∙ ap (λ g. ahead (read g bytes) (read_all (forms (drop (i + 1) fs)))) (field_form-schema f)
-
-pub fields_on : (fs : List Field) (i : ℕ) (f : Field) (bytes rest : List ℕ) (total : Result (List ℕ) (Fault DatumCause)) → drop i fs ≡ f ∷ drop (i + 1) fs → end_of (read (form_of f.schema) bytes) ≡ Ok rest
-    → end_of (read_all (forms (drop i fs)) bytes) ≡ total → end_of (read_all (forms (drop (i + 1) fs)) rest) ≡ total
-fields_on fs i f bytes rest total is e so =
-    sym (end-ahead (read (form_of f.schema) bytes) (read_all (forms (drop (i + 1) fs))) rest e) ∙ ap end_of (sym (fields_next fs i f bytes is)) ∙ so
 
 -- the forms of branches
 abbrev pub unions : List Schema → Forms

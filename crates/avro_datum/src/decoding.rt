@@ -9,15 +9,13 @@ ghost use Rattle.avro_pieces.specs.Pieces.{causes};
 
 use crate::datum::{Datum, DatumList, PairList};
 use crate::fault::DatumErr;
+use crate::limits::most_items;
 use avro_pieces::{
     DatumCause, blob, block_head, int, is_sized, number, part, position, short_blob, text_of, truth,
 };
 use avro_schema::{Bytes, Field, Schema, Text};
 use sqlite_items::{Boxed, Items};
 use std::alloc::{AllocError, Global};
-
-/// Items of one array or map.
-const MOST_ITEMS: u64 = 16777216;
 
 #[inline(always)]
 #[tactic(auto, unfolding(avro_container::specs::Reading::string_at))]
@@ -471,7 +469,7 @@ fn blocks(
 {
     let mut items = Items::new(alloc);
     let mut end = at;
-    let mut room = MOST_ITEMS;
+    let mut room = most_items();
     // Each block has a byte at least, so these turns are enough.
     let turns = bytes.len() - at + 1;
     for _ in 0..turns {
@@ -548,7 +546,7 @@ fn pair_blocks(
 {
     let mut items = Items::new(alloc);
     let mut end = at;
-    let mut room = MOST_ITEMS;
+    let mut room = most_items();
     // Each block has a byte at least, so these turns are enough.
     let turns = bytes.len() - at + 1;
     for _ in 0..turns {

@@ -8,6 +8,8 @@ mod datum;
 mod decoding;
 mod encoding;
 mod fault;
+mod limits;
+mod no_bytes;
 mod skipping;
 
 pub use avro_pieces::{DatumCause, SkipErr};

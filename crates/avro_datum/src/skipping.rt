@@ -10,14 +10,13 @@ ghost use Rattle.avro_datum.specs.Spelling.{most_items};
 ghost use Rattle.avro_datum.specs.Reading.{Ends, told, entry_at, read, read_all};
 ghost use Rattle.avro_pieces.specs.Pieces.{causes};
 
+use crate::limits::most_items;
+use crate::no_bytes::takes_none;
 use avro_pieces::{
     DatumCause, SkipErr, blob, block_head, int, is_sized, number, part, position, short_blob,
     short_position, text_of, truth,
 };
 use avro_schema::{Field, Schema};
-
-/// Items of one array or map.
-const MOST_ITEMS: u64 = 16777216;
 
 #[inline(always)]
 #[tactic(auto, unfolding(avro_container::specs::Reading::string_at))]
@@ -325,7 +324,7 @@ fn past_blocks(item: &Schema, bytes: &[u8], at: usize, fault: &mut SkipErr) -> O
     ensures { Ends bytes.now (told result fault.new) (blocks_at causes (read (form_of item.now)) (suc (length (drop at bytes.now))) most_items (drop at bytes.now)) }
 {
     let mut end = at;
-    let mut room = MOST_ITEMS;
+    let mut room = most_items();
     // Each block has a byte at least, so these turns are enough.
     let turns = bytes.len() - at + 1;
     for _ in 0..turns {
@@ -368,6 +367,10 @@ fn past_some(
     requires { at ≤ length bytes.now }
     ensures { Ends bytes.now (told result fault.new) (items_at (read (form_of item.now)) count (drop at bytes.now)) }
 {
+    // Any number of items of no bytes may be claimed by a few bytes.
+    if takes_none(item) {
+        return Some(at);
+    }
     let mut end = at;
     for _ in 0..count {
         end = past(item, bytes, end, fault)?;
@@ -381,7 +384,7 @@ fn past_pair_blocks(inner: &Schema, bytes: &[u8], at: usize, fault: &mut SkipErr
     ensures { Ends bytes.now (told result fault.new) (blocks_at causes (entry_at (read (form_of inner.now))) (suc (length (drop at bytes.now))) most_items (drop at bytes.now)) }
 {
     let mut end = at;
-    let mut room = MOST_ITEMS;
+    let mut room = most_items();
     // Each block has a byte at least, so these turns are enough.
     let turns = bytes.len() - at + 1;
     for _ in 0..turns {

@@ -306,9 +306,51 @@ fn faults_of_values(rt: HostRuntime) -> Result<(), Fail> {
     Ok(())
 }
 
+/// A record of a null, a fixed of no bytes and a last field.
+fn nothing_and(alloc: Global, last: Schema) -> Result<Schema, AllocError> {
+    let mut schemas = Items::new(alloc);
+    schemas.push(Schema::Null)?;
+    schemas.push(fixed(alloc, 0)?)?;
+    schemas.push(last)?;
+    record_of(alloc, schemas)
+}
+
+/// Where `skip` ends in an array of such items.
+fn array_end(alloc: Global, item: Schema, of: &[u8]) -> Result<Option<usize>, AllocError> {
+    let array = array_of(alloc, item)?;
+    match skip(&array, of, 0) {
+        Ok(end) => Ok(Some(end)),
+        Err(_) => Ok(None),
+    }
+}
+
+/// An array of 10,000 arrays of 16,777,216 items each that are spelled by no bytes.
+fn many_arrays(alloc: Global) -> Result<Vec<u8>, AllocError> {
+    let mut of = Vec::new(alloc);
+    of.extend_from_slice(b"\xa0\x9c\x01")?;
+    for _ in 0..10000u32 {
+        of.extend_from_slice(b"\x80\x80\x80\x10\x00")?;
+    }
+    of.push(0)?;
+    Ok(of)
+}
+
 #[test]
-fn items_at_the_limit(rt: HostRuntime) -> Result<(), Fail> {
-    let nulls = array_of(rt.alloc(), Schema::Null)?;
-    assert_eq!(rt; skip(&nulls, b"\x80\x80\x80\x10\x00", 0), Ok(5));
+fn items_of_no_bytes_are_passed_at_once(rt: HostRuntime) -> Result<(), Fail> {
+    let alloc = rt.alloc();
+    let most = b"\x80\x80\x80\x10\x00";
+    assert_eq!(rt; array_end(alloc, Schema::Null, most)?, Some(5));
+    let of_a_size = b"\xff\xff\xff\x0f\x00\x00";
+    assert_eq!(rt; array_end(alloc, Schema::Null, of_a_size)?, Some(6));
+    let record = nothing_and(alloc, Schema::Null)?;
+    assert_eq!(rt; array_end(alloc, record, most)?, Some(5));
+    let with_boolean = nothing_and(alloc, Schema::Bool)?;
+    assert_eq!(rt;
+        array_end(alloc, with_boolean, b"\x04\x01\x00\x00")?,
+        Some(4)
+    );
+    let many = many_arrays(alloc)?;
+    let nulls = array_of(alloc, Schema::Null)?;
+    assert_eq!(rt; array_end(alloc, nulls, many.as_slice())?, Some(50004));
     Ok(())
 }

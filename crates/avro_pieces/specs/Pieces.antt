@@ -2,6 +2,8 @@
 use Rattle.std.specs.Prelude.{◌≡◌, ℕ, zero, suc, ℤ, pos, negsuc, ◌-◌, ◌≤◌, List, [], ◌∷◌, length, drop, Result, Ok, Err, Bool, true, false, nat_lt, ◌&&◌, ◌^◌, if◌then◌else◌}
 use Rattle.std.specs.Borrow.{Bor}
 use Rattle.avro_container.specs.Reading.{Causes, Read, ◌>>=◌, number_at}
+use Rattle.avro_container.specs.declared.fault.ContainerCause.{ContainerCause}
+use Rattle.avro_container.specs.declared.fault.ContainerCause.TheVariants as container
 use Rattle.avro_pieces.specs.declared.fault.DatumCause.{DatumCause}
 use Rattle.avro_pieces.specs.declared.fault.DatumCause.TheVariants.{Short, NumberTooLong, BadUtf8, BadBool, NegativeLength, BadSize, TooMany}
 use Rattle.avro_pieces.specs.declared.fault.SkipErr.{SkipErr}
@@ -9,6 +11,12 @@ use Rattle.avro_pieces.specs.declared.fault.SkipErr.{SkipErr}
 -- The faults of what a value is made of.
 abbrev pub causes : Causes DatumCause
 causes = record { short = Short; too_long = NumberTooLong; bad_utf8 = BadUtf8; negative_length = NegativeLength; bad_size = BadSize; too_many = TooMany }
+
+-- A fault of a container's part, where it is one that the head of a block of items has.
+abbrev pub of_head : ContainerCause → DatumCause
+of_head container.TooLong = NumberTooLong
+of_head container.TooMany = TooMany
+of_head _ = Short
 
 -- a number of 32 bits
 abbrev pub narrow : ℕ → ℤ × List ℕ → Read DatumCause ℤ

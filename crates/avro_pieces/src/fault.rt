@@ -1,5 +1,10 @@
 //! What can be wrong with the bytes of a value, and where.
 
+ghost use Rattle.std.specs.Prelude.{◌≡◌};
+ghost use Rattle.avro_pieces.specs.Pieces.{of_head};
+
+use avro_container::{BlockErr, ContainerCause};
+
 /// What is wrong with the bytes of a value (Apache Avro 1.11, "Binary Encoding").
 ///
 /// The place of a fault is the first byte of the number, length, position or string that is wrong.
@@ -30,4 +35,26 @@ pub enum DatumCause {
 pub struct SkipErr {
     pub at: usize,
     pub cause: DatumCause,
+}
+
+/// Of a fault of the head of a block of items, which has no other causes than these.
+fn cause_of(cause: ContainerCause) -> DatumCause
+    ensures { result ≡ of_head cause }
+{
+    match cause {
+        ContainerCause::TooLong => DatumCause::NumberTooLong,
+        ContainerCause::TooMany => DatumCause::TooMany,
+        _ => DatumCause::Short,
+    }
+}
+
+impl From<BlockErr> for SkipErr {
+    ghost from_gives = { λ s e. (e.at ≡ s.at) × (e.cause ≡ of_head s.cause) };
+
+    fn from(e: BlockErr) -> SkipErr {
+        SkipErr {
+            at: e.at,
+            cause: cause_of(e.cause),
+        }
+    }
 }

@@ -5,8 +5,8 @@
 mod fault;
 mod pieces;
 
+pub use avro_container::{Head, is_sized};
 pub use fault::{DatumCause, SkipErr};
 pub use pieces::{
-    Head, blob, block_head, int, is_sized, number, part, position, short_blob, short_position,
-    text_of, truth,
+    blob, block_head, int, number, part, position, short_blob, short_position, text_of, truth,
 };

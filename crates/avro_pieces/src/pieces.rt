@@ -2,20 +2,13 @@
 
 ghost use Rattle.std.specs.Prelude.{◌≡◌, ◌≤◌, ◌<◌, ◌+◌, pos, length, drop, Ok, IfOk, IfSome, MatchOption, true, false};
 ghost use Rattle.std.specs.Str.{is_utf8};
-ghost use Rattle.avro_container.specs.Reading.{number_at, length_at, bytes_at, blob_at, head_at, is_size};
+ghost use Rattle.avro_container.specs.Reading.{number_at, length_at, bytes_at, blob_at, head_at};
 ghost use Rattle.avro_pieces.specs.Pieces.{Gives, GivesBy, Lends, causes, int_at, position_at, bool_at};
-ghost use Rattle.avro_pieces.specs.declared.pieces.Head.{Head};
+ghost use Rattle.avro_container.specs.declared.parts.Head.{Head};
 ghost use Rattle.avro_pieces.specs.declared.fault.DatumCause.{DatumCause};
 
 use crate::fault::{DatumCause, SkipErr};
-use avro_container::{NumErr, read_long};
-
-/// What the head of a block of items says: their count, and their number of bytes where it states one.
-#[derive(Clone, Copy)]
-pub struct Head {
-    pub count: u64,
-    pub size: Option<i64>,
-}
+use avro_container::{Head, NumErr, read_long};
 
 /// A number of 64 bits.
 #[inline(always)]
@@ -246,44 +239,11 @@ pub fn truth(bytes: &[u8], at: usize) -> Result<(bool, usize), SkipErr>
 }
 
 /// The head of a block of which no more than `room` items may come.
-#[tactic(auto, unfolding(avro_container::specs::Reading::head_at))]
+#[tactic(auto, using(crate::proofs::Heads::head_told))]
 pub fn block_head(bytes: &[u8], at: usize, room: u64) -> Result<(Head, usize), SkipErr>
     requires { at ≤ length bytes.now }
     ensures within { IfOk result (λ x. x.0.count ≤ room) }
     ensures value { GivesBy (λ (h : Head). (h.count, h.size)) bytes.now result (head_at causes room (drop at bytes.now)) }
 {
-    let (n, from) = number(bytes, at)?;
-    let count = n.unsigned_abs();
-    if count > room {
-        return Err(SkipErr {
-            at,
-            cause: DatumCause::TooMany,
-        });
-    }
-    if n >= 0 {
-        return Ok((Head { count, size: None }, from));
-    }
-    let (size, from) = number(bytes, from)?;
-    Ok((
-        Head {
-            count,
-            size: Some(size),
-        },
-        from,
-    ))
-}
-
-/// Whether the size that a block states, if it states one, is this length.
-pub fn is_sized(size: Option<i64>, len: usize) -> bool
-    ensures { result ≡ is_size size len }
-{
-    match size {
-        None => true,
-        Some(size) => {
-            if size < 0 {
-                return false;
-            }
-            size as u64 == len as u64
-        }
-    }
+    Ok(avro_container::block_head(bytes, at, room)?)
 }

@@ -3,3 +3,4 @@ pub mod CallLaws
 pub mod Working
 pub mod LeftLaws
 pub mod PublishLaws
+pub mod TakenLaws

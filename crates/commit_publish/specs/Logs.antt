@@ -1,5 +1,5 @@
--- What a publish tells besides: the count of faults, the mark of a failed call, and what the log says of it.
-use Rattle.std.specs.Prelude.{◌≡◌, ℕ, List, [], ◌∷◌, Option, Some, Result, Ok, Err}
+-- What a publish tells besides: the count of faults, the mark of a failed call, that it removes its draft only for a taken target, and what the log says of it.
+use Rattle.std.specs.Prelude.{◌≡◌, ℕ, List, [], ◌∷◌, length, Option, Some, Result, Ok, Err}
 use Rattle.ice_store.specs.Places.{Parts}
 use Rattle.ice_store.specs.Others.{WhereTold}
 use Rattle.ice_store.specs.Calls.{Rose, failure_of}
@@ -9,9 +9,12 @@ use Rattle.ice_store.specs.declared.history.StoreCall.{StoreCall}
 use Rattle.ice_store.specs.declared.history.StoreCall.TheVariants.{Take}
 use Rattle.ice_store.specs.declared.store.StoreErr.{StoreErr}
 use Rattle.ice_store.specs.declared.store.StoreErr.TheVariants.{Failed, Memory}
-use Rattle.commit_publish.specs.Steps.{step_of}
+use Rattle.commit_publish.specs.Left.{Leaves}
+use Rattle.commit_publish.specs.Stages.{IsTargetTaken}
+use Rattle.commit_publish.specs.Steps.{IsDropping, step_of}
 use Rattle.commit_publish.specs.declared.steps.PublishCall.{PublishCall}
 use Rattle.commit_publish.specs.declared.steps.PublishCall.TheVariants as calls
+use Rattle.commit_publish.specs.declared.steps.Route.{Route}
 use Rattle.commit_publish.specs.declared.steps.StepErr.{StepErr}
 use Rattle.commit_publish.specs.declared.publish.PublishErr.{PublishErr}
 use Rattle.commit_publish.specs.declared.publish.PublishErr.TheVariants.{NameTaken, Contended, Stopped}
@@ -50,6 +53,13 @@ PublishMarks draft target bytes (Err NameTaken) before now told = now ≡ before
 PublishMarks draft target bytes (Err Contended) before now told = now ≡ before
 PublishMarks draft target bytes (Err (Stopped e)) before now told = MarksBy e.cause (Take (step_of draft target bytes e.call)) before now told
 
+-- a publish that removed its draft, or stopped at that, leaves the target taken
+abbrev pub DropsTaken : Route → Result (Unit {0}) PublishErr → Option Past → Type 0
+DropsTaken route (Ok u) told = Unit {0}
+DropsTaken route (Err NameTaken) told = Unit {0}
+DropsTaken route (Err Contended) told = WhereTold told (IsTargetTaken route)
+DropsTaken route (Err (Stopped e)) told = IsDropping e.call → WhereTold told (IsTargetTaken route)
+
 -- the versions that a publish of this one commits
 abbrev pub published_by : ℕ → Result (Unit {0}) PublishErr → List ℕ
 published_by version (Ok u) = version ∷ []
@@ -74,3 +84,7 @@ left_by draft target (Ok u) = []
 left_by draft target (Err NameTaken) = []
 left_by draft target (Err Contended) = []
 left_by draft target (Err (Stopped e)) = left_at draft target e.call e.cause
+
+-- the steps of a publish left exactly the places that its answer says, where a published version counts as committed
+abbrev pub PublishNotes : Parts → Parts → ℕ → Result (Unit {0}) PublishErr → ℕ → ℕ → Option Failure → Past → Past → Type 0
+PublishNotes draft target version result before now mark = Leaves (Rose before now) mark (length (published_by version result)) [] (left_by draft target result)

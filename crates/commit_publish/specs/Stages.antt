@@ -95,3 +95,7 @@ Publishes reading route bytes old now = IsPublished reading.number route.text by
 -- the draft's name is taken
 abbrev pub IsNameTaken : Route → Past → Type 0
 IsNameTaken route past = is_named (replay past).files route.draft ≡ true
+
+-- the target is taken
+abbrev pub IsTargetTaken : Route → Past → Type 0
+IsTargetTaken route past = is_named (replay past).files route.target ≡ true

@@ -41,6 +41,40 @@ publish_plan draft target bytes = draft_plan draft bytes ++ move_plan draft targ
 abbrev pub lost_plan : Parts → List ℕ → List Step
 lost_plan draft bytes = draft_plan draft bytes ++ drop_plan draft
 
+-- the pieces of a publish: they create the draft, fill it, rename it, and remove it where the target is taken
+pub data Piece : Type 0 where
+  Make : Piece
+  Fill : Piece
+  Move : Piece
+  Drop : Piece
+
+-- the piece that a call belongs to
+abbrev pub piece_of : PublishCall → Piece
+piece_of calls.Create = Make
+piece_of calls.Append = Fill
+piece_of calls.Seal = Fill
+piece_of calls.SyncDraft = Fill
+piece_of calls.Rename = Move
+piece_of calls.SyncRename = Move
+piece_of calls.Remove = Drop
+piece_of calls.SyncRemoval = Drop
+
+-- a call of the piece that creates the draft
+abbrev pub IsMaking : PublishCall → Type 0
+IsMaking call = piece_of call ≡ Make
+
+-- a call of the one that fills it
+abbrev pub IsFilling : PublishCall → Type 0
+IsFilling call = piece_of call ≡ Fill
+
+-- a call of the one that renames it
+abbrev pub IsMoving : PublishCall → Type 0
+IsMoving call = piece_of call ≡ Move
+
+-- a call of the one that removes it
+abbrev pub IsDropping : PublishCall → Type 0
+IsDropping call = piece_of call ≡ Drop
+
 -- the step that a call of a publish asks for
 abbrev pub step_of : Parts → Parts → List ℕ → PublishCall → Step
 step_of draft target bytes calls.Create = Create draft

@@ -1,14 +1,12 @@
 //! A publish: the new metadata becomes the next version of its table.
-ghost use Rattle.std.specs.Prelude.{◌≡◌, ◌≤◌, ◌+◌, ◌++◌, [], length, vec_len, vec_capacity};
-ghost use Rattle.ice_store.specs.Calls.{Rose};
+ghost use Rattle.std.specs.Prelude.{◌≡◌, ◌≤◌, ◌+◌, ◌++◌, vec_len, vec_capacity};
 ghost use Rattle.ice_store.specs.Others.{WhereTold};
 ghost use Rattle.ice_store.specs.Since.{Since};
 ghost use Rattle.commit_history.specs.Readings.{rules_of};
 ghost use Rattle.commit_history.specs.Mannered.{IsMannered};
 ghost use Rattle.commit_history.specs.Versions.{number_in};
 ghost use Rattle.commit_publish.specs.Leaves.{PublishLeaves};
-ghost use Rattle.commit_publish.specs.Left.{Leaves};
-ghost use Rattle.commit_publish.specs.Logs.{PublishCounts, PublishMarks, published_by, left_at, left_by};
+ghost use Rattle.commit_publish.specs.Logs.{DropsTaken, PublishCounts, PublishMarks, PublishNotes, published_by, left_at, left_by};
 ghost use Rattle.commit_publish.specs.Stages.{IsNarrow, Creating, Aim, Stage, NoFile, InState};
 
 use crate::steps::{PublishCall, Route, StepErr, drop_draft, fill_draft, make_draft, move_draft};
@@ -46,6 +44,7 @@ fn publish_steps<R: TableReading, M: Manners, S: Store<M>>(
     requires start { WhereTold (S.past store.old) (InState (Stage (number_in route.now.table) route.now Creating NoFile)) }
     requires narrow { IsNarrow (R.content route.now.table) bytes.now }
     ensures told { Since (S.past store.old) (S.past store.new) (PublishLeaves (rules_of R.content route.now.table (M.allows (S.manners store.old))) route.now bytes.now result) }
+    ensures taken { DropsTaken route.now result (S.past store.new) }
     ensures manners { S.manners store.new ≡ S.manners store.old }
     ensures cause { PublishCounts result (S.faults store.old) (S.faults store.new) }
     ensures later { S.faults store.old ≤ S.faults store.new }
@@ -114,13 +113,14 @@ pub fn publish<R: TableReading, M: Manners, S: Store<M>>(
     requires start { WhereTold (S.past store.old) (InState (Stage (number_in route.now.table) route.now Creating NoFile)) }
     requires narrow { IsNarrow (R.content route.now.table) bytes.now }
     ensures told { Since (S.past store.old) (S.past store.new) (PublishLeaves (rules_of R.content route.now.table (M.allows (S.manners store.old))) route.now bytes.now result) }
+    ensures taken { DropsTaken route.now result (S.past store.new) }
     ensures manners { S.manners store.new ≡ S.manners store.old }
     ensures cause { PublishCounts result (S.faults store.old) (S.faults store.new) }
     ensures later { S.faults store.old ≤ S.faults store.new }
     ensures halted { PublishMarks route.now.draft route.now.target bytes.now result (S.halted store.old) (S.halted store.new) (S.past store.new) }
     ensures committed { log.new.committed.items ≡ log.old.committed.items ++ published_by version result }
     ensures left { log.new.left.items ≡ log.old.left.items ++ left_by route.now.draft route.now.target result }
-    ensures noted { Since (S.past store.old) (S.past store.new) (Leaves (Rose (S.faults store.old) (S.faults store.new)) (S.halted store.new) (length (published_by version result)) [] (left_by route.now.draft route.now.target result)) }
+    ensures noted { Since (S.past store.old) (S.past store.new) (PublishNotes route.now.draft route.now.target version result (S.faults store.old) (S.faults store.new) (S.halted store.new)) }
 {
     let lacks = StepErr {
         call: PublishCall::Create,

@@ -1,11 +1,12 @@
 //! The pieces of a publish, each of a few store calls.
-ghost use Rattle.std.specs.Prelude.{◌≡◌, ◌≤◌, true, false, [], List, ℕ};
+ghost use Rattle.std.specs.Prelude.{◌≡◌, ◌≤◌, true, false, [], List, ℕ, IfErr};
 ghost use Rattle.ice_store.specs.Others.{WhereTold};
 ghost use Rattle.ice_store.specs.Since.{Since};
 ghost use Rattle.commit_history.specs.Readings.{rules_of};
 ghost use Rattle.commit_history.specs.Mannered.{IsMannered};
 ghost use Rattle.commit_history.specs.Versions.{number_in};
-ghost use Rattle.commit_publish.specs.Stages.{IsNarrow, Creating, AtRest, Aim, Stage, NoFile, HasDraft, IsTaken, InState};
+ghost use Rattle.commit_publish.specs.Stages.{IsNarrow, Creating, AtRest, Aim, Stage, NoFile, HasDraft, IsTaken, IsTargetTaken, InState};
+ghost use Rattle.commit_publish.specs.Steps.{IsMaking, IsFilling, IsMoving, IsDropping};
 ghost use Rattle.commit_publish.specs.Leaves.{MakeLeaves, FillLeaves, MoveLeaves, DropLeaves};
 ghost use Rattle.commit_publish.specs.Logs.{CallCounts, CallMarks};
 
@@ -60,6 +61,7 @@ pub fn make_draft<R: TableReading, M: Manners, S: Store<M>>(
     requires aim { Aim (number_in route.now.table) route.now }
     requires start { WhereTold (S.past store.old) (InState (Stage (number_in route.now.table) route.now Creating NoFile)) }
     ensures told { Since (S.past store.old) (S.past store.new) (MakeLeaves (rules_of R.content route.now.table (M.allows (S.manners store.old))) route.now result) }
+    ensures call { IfErr result (λ e. IsMaking e.call) }
     ensures manners { S.manners store.new ≡ S.manners store.old }
     ensures cause { CallCounts result (S.faults store.old) (S.faults store.new) }
     ensures later { S.faults store.old ≤ S.faults store.new }
@@ -81,6 +83,7 @@ pub fn fill_draft<R: TableReading, M: Manners, S: Store<M>>(
     requires aim { Aim (number_in route.now.table) route.now }
     requires start { WhereTold (S.past store.old) (InState (Stage (number_in route.now.table) route.now Creating (HasDraft route.now.draft false []))) }
     ensures told { Since (S.past store.old) (S.past store.new) (FillLeaves (rules_of R.content route.now.table (M.allows (S.manners store.old))) route.now bytes.now result) }
+    ensures call { IfErr result (λ e. IsFilling e.call) }
     ensures manners { S.manners store.new ≡ S.manners store.old }
     ensures cause { CallCounts result (S.faults store.old) (S.faults store.new) }
     ensures later { S.faults store.old ≤ S.faults store.new }
@@ -111,6 +114,7 @@ pub fn move_draft<R: TableReading, M: Manners, S: Store<M>>(
     requires start { WhereTold (S.past store.old) (InState (Stage (number_in route.now.table) route.now AtRest (HasDraft route.now.draft true bytes.now))) }
     requires narrow { IsNarrow (R.content route.now.table) bytes.now }
     ensures told { Since (S.past store.old) (S.past store.new) (MoveLeaves (rules_of R.content route.now.table (M.allows (S.manners store.old))) route.now bytes.now result) }
+    ensures call { IfErr result (λ e. IsMoving e.call) }
     ensures manners { S.manners store.new ≡ S.manners store.old }
     ensures cause { CallCounts result (S.faults store.old) (S.faults store.new) }
     ensures later { S.faults store.old ≤ S.faults store.new }
@@ -138,6 +142,8 @@ pub fn drop_draft<R: TableReading, M: Manners, S: Store<M>>(
     requires start { WhereTold (S.past store.old) (InState (Stage (number_in route.now.table) route.now AtRest (IsTaken route.now bytes.now))) }
     requires narrow { IsNarrow (R.content route.now.table) bytes.now }
     ensures told { Since (S.past store.old) (S.past store.new) (DropLeaves (rules_of R.content route.now.table (M.allows (S.manners store.old))) route.now bytes.now result) }
+    ensures call { IfErr result (λ e. IsDropping e.call) }
+    ensures taken { WhereTold (S.past store.new) (IsTargetTaken route.now) }
     ensures manners { S.manners store.new ≡ S.manners store.old }
     ensures cause { CallCounts result (S.faults store.old) (S.faults store.new) }
     ensures later { S.faults store.old ≤ S.faults store.new }

@@ -1,5 +1,5 @@
 -- The meanings of the ref procedures exclude one another, and none of them refuses a table for an argument.
-use Rattle.std.proofs.Common.{◌≡◌, inl, inr, ℕ, ℤ, List, Option, Some, None, Ok, Err, refl, sym, ap, ◌∙◌, subst}
+use Rattle.std.proofs.Common.{◌≡◌, inl, inr, ℕ, ℤ, List, Option, Some, None, Err, refl, sym, ap, ◌∙◌}
 use Rattle.serde_json.specs.Data.{Data}
 use Rattle.metadata_view.specs.View.{snapshots_of, current_of}
 use Rattle.metadata_view.specs.Walk.{snapshot_with}
@@ -18,7 +18,7 @@ use Rattle.run_refs.specs.declared.goal.Goal.TheVariants.{Rollback, SetCurrent, 
 use Rattle.run_refs.specs.Ancestors.{Lists}
 use Rattle.run_refs.specs.Meanings.{moves_of}
 use Rattle.run_refs.specs.Moves.{Aim, Aims, AimsIfAncestor, AimsBack, AimsAt, AimsTo, AimsForward, Moves, IsThere, RefusesMove}
-use Rattle.run_refs.specs.Procedures.{Unasked, HasListing, RefusesListing, listing_of}
+use Rattle.run_refs.specs.Procedures.{Unasked, RefusesListing, listing_of}
 use Rattle.run_refs.specs.Refs.{ref_at, branch_at}
 use Rattle.run_refs.proofs.AimLaws.{one_refusal, one_successor, moves_or_is_there, not_both}
 use Rattle.run_refs.proofs.ListingLaws.{lists_or_lacks}

@@ -1,5 +1,5 @@
 -- What the ref procedures mean to a run: a move of a ref, and a listing of ancestors.
-use Rattle.std.specs.Prelude.{◌≡◌, ◌⊎◌, ℕ, ℤ, List, Option, Ok, Err}
+use Rattle.std.specs.Prelude.{◌≡◌, ℕ, ℤ, List, Option, Ok, Err}
 use Rattle.serde_json.specs.Data.{Data}
 use Rattle.table_metadata.specs.Edits.{HasVersionLimit}
 use Rattle.table_metadata.specs.declared.cause.EditErr.TheVariants.{UnknownSnapshot as Lacks}

@@ -52,6 +52,17 @@ pub fn write_whole<W: Write>(out: &mut W, bytes: &[u8]) -> Result<(), Failed>
     Err(Failed)
 }
 
+/// Writes all of the bytes and flushes them, or fails after a front of them.
+pub fn put_whole<W: Write>(out: &mut W, bytes: &[u8]) -> Result<(), Failed>
+    ensures { TakesFront (W.contents out.old) (W.contents out.new) bytes.now result }
+{
+    write_whole(out, bytes)?;
+    match out.flush() {
+        Ok(()) => Ok(()),
+        Err(_) => Err(Failed),
+    }
+}
+
 // One write of bytes, and how many of them it took: none where the call was interrupted.
 fn write_once<W: Write>(out: &mut W, bytes: &[u8]) -> Result<usize, Failed>
     ensures within { IfOk result (λ n. n ≤ length bytes.now) }

@@ -1,3 +1,5 @@
-pub mod ChangeLaws
 pub mod ActLaws
 pub mod TellLaws
+pub mod IndexLaws
+pub mod SlotLaws
+pub mod SlotSteps

@@ -4,3 +4,4 @@ pub mod Failing
 pub mod Given
 pub mod Sinks
 pub mod Neighbours
+pub mod Slots

@@ -5,7 +5,6 @@ ghost use Rattle.ice_store.specs.Files.{find, put, renamed, without};
 ghost use Rattle.ice_store.specs.History.{undone, names_by, settled};
 ghost use Rattle.store_memory.specs.Torn.{torn_at};
 
-use crate::files::find_file;
 use ice_store::{Bytes, FileRec, Held, Items, NameChange, Place};
 use std::alloc::{AllocError, Global};
 
@@ -28,6 +27,12 @@ pub type TornList = Items<Torn>;
 pub struct Choice {
     pub done: BoolList,
     pub torn: TornList,
+}
+
+fn find_file<'a>(files: &'a [Held], place: &Place) -> Option<&'a Held>
+    ensures { option_copied result ≡ find files.now place.now }
+{
+    files.iter().find(|held| held.place.is(place))
 }
 
 // Takes away what stands at a place.

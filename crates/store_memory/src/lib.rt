@@ -1,13 +1,14 @@
 //! The outside of the program in memory, for tests and for what is proved of the program.
 //!
 //! - `store`: a store in memory, which tells its history, lets a neighbour act and fails where it is told to. It stands
-//!   on `history`, a history beside the files that it leaves, on `files` and on `image`, what a crash leaves.
+//!   on `history`, a history beside the files that it leaves, on `files` with their `index`, and on `image`, what a crash leaves.
 //! - `sources`: a clock and a source of identifiers. `sink`: a sink.
 #![tactic(auto)]
 
 mod files;
 mod history;
 mod image;
+mod index;
 mod neighbour;
 mod sink;
 mod sources;

@@ -1,8 +1,8 @@
 //! A store in memory.
-ghost use Rattle.std.specs.Prelude.{◌≡◌, ◌≤◌, [], IfOk, Some, None, length};
+ghost use Rattle.std.specs.Prelude.{◌≡◌, ◌≤◌, [], IfOk, OnOk, OnErr, Some, None};
 ghost use Rattle.ice_store.specs.History.{replay, image};
-ghost use Rattle.ice_store.specs.Others.{Acted, Answers};
-ghost use Rattle.ice_store.specs.Calls.{StepAnswer, HasCause, MarksFailure, Rose, CreateAnswer, AppendAnswer, PlainAnswer, RenameAnswer, RemoveAnswer, SizeAnswer, NamesAnswer, ReadAnswer};
+ghost use Rattle.ice_store.specs.Others.{Acted, Answers, IsOurs};
+ghost use Rattle.ice_store.specs.Calls.{StepAnswer, HasCause, MarksFailure, Rose, failure_of, CreateAnswer, AppendAnswer, PlainAnswer, RenameAnswer, RemoveAnswer, SizeAnswer, NamesAnswer, ReadAnswer};
 ghost use Rattle.ice_store.specs.declared.store.StoreErr.TheVariants.{Failed};
 ghost use Rattle.store_memory.specs.Neighbours.{next_moment};
 ghost use Rattle.store_memory.specs.Took.{Took};
@@ -11,8 +11,8 @@ ghost use Rattle.store_memory.specs.Failing.{fail_at, AsPlanned};
 
 use crate::{Choice, History, Neighbour, Quiet};
 use ice_store::{
-    Bytes, Event, FileList, Gone, Items, ListedList, Made, Manners, Moved, Past, Place, Step,
-    Store, StoreErr, Who,
+    Bytes, Event, Failure, FileList, Gone, Items, ListedList, Made, Manners, Moved, Past, Place,
+    Step, Store, StoreCall, StoreErr, Who,
 };
 use std::alloc::{AllocError, Global};
 
@@ -40,8 +40,8 @@ pub struct MemStore<N> {
     pub calls: u64,
     /// How often a call answered `Failed`, up to the greatest 64-bit number.
     pub faults: u64,
-    /// How many events stood when a call last answered `Failed`.
-    pub halted: Option<usize>,
+    /// The call that last answered `Failed`, and how many events then stood.
+    pub halted: Option<Failure>,
 }
 
 impl<N: Drop> MemStore<N> {
@@ -171,25 +171,29 @@ fn begin<M: Manners, N: Neighbour<M>>(store: &mut MemStore<N>) -> Result<Option<
     Ok(fail_for(store.fails.inner(), call))
 }
 
-// The same for a call that changes nothing.
-fn begin_reading<M: Manners, N: Neighbour<M>>(store: &mut MemStore<N>) -> Result<(), StoreErr>
+// The same for a call that looks at a place and changes nothing.
+fn begin_reading<M: Manners, N: Neighbour<M>>(
+    store: &mut MemStore<N>,
+    place: &Place,
+) -> Result<(), StoreErr>
     ensures acted { Acted (M.allows (N.manners store.old.neighbour)) store.old.history store.new.history }
     ensures manners { N.manners store.new.neighbour ≡ N.manners store.old.neighbour }
     ensures cause { HasCause store.old.faults store.new.faults result }
-    ensures halted { MarksFailure store.old.halted store.new.halted (Some store.new.history) result }
+    ensures halted { MarksFailure (StoreCall.Look place.now) store.old.halted store.new.halted (Some store.new.history) result }
     ensures planned { AsPlanned (fail_at store.old.fails store.old.calls) result }
     ensures fails { store.new.fails ≡ store.old.fails }
     ensures calls { store.new.calls ≡ next_moment store.old.calls }
 {
-    match begin::<M, N>(store)? {
-        Some(_) => Err(store.failed()),
-        None => Ok(()),
+    if begin::<M, N>(store)?.is_none() {
+        return Ok(());
     }
+    let call = StoreCall::Look(place.copy()?);
+    Err(store.failed(call))
 }
 
 impl<N> MemStore<N> {
-    // Counts and marks a failure.
-    fn failed(&mut self) -> StoreErr
+    // Counts the failure of a call, and marks it.
+    fn failed(&mut self, call: StoreCall) -> StoreErr
         ensures error { result ≡ Failed }
         ensures history { self.new.history ≡ self.old.history }
         ensures neighbour { self.new.neighbour ≡ self.old.neighbour }
@@ -197,26 +201,26 @@ impl<N> MemStore<N> {
         ensures calls { self.new.calls ≡ self.old.calls }
         ensures later { self.old.faults ≤ self.new.faults }
         ensures rose { Rose self.old.faults self.new.faults }
-        ensures halted { self.new.halted ≡ Some (length self.new.history.events) }
+        ensures halted { self.new.halted ≡ Some (failure_of call self.new.history) }
     {
         self.faults = self.faults.saturating_add(1);
-        self.halted = Some(self.history.past().events.len());
+        self.halted = Some(Failure {
+            events: self.history.past().events.len(),
+            call,
+        });
         StoreErr::Failed
     }
 
-    // Takes a step of ours, unless it fails.
-    fn take(&mut self, step: Step, fail: Option<bool>) -> Result<(), StoreErr>
-        ensures took { Took self.old.history self.new.history (StepAnswer step result) }
+    // Adds an event of ours. Without memory the history stays as it was.
+    fn add(&mut self, step: Step) -> Result<(), AllocError>
+        ensures ok { OnOk result (Took self.old.history self.new.history (IsOurs step)) }
+        ensures err { OnErr result (self.new.history ≡ self.old.history) }
         ensures neighbour { self.new.neighbour ≡ self.old.neighbour }
-        ensures cause { HasCause self.old.faults self.new.faults result }
-        ensures halted { MarksFailure self.old.halted self.new.halted (Some self.new.history) result }
-        ensures planned { AsPlanned fail result }
         ensures fails { self.new.fails ≡ self.old.fails }
         ensures calls { self.new.calls ≡ self.old.calls }
+        ensures faults { self.new.faults ≡ self.old.faults }
+        ensures halted { self.new.halted ≡ self.old.halted }
     {
-        if let Some(false) = fail {
-            return Err(self.failed());
-        }
         let ms = self.next_ms;
         self.history.add(
             self.alloc,
@@ -227,10 +231,28 @@ impl<N> MemStore<N> {
             },
         )?;
         self.next_ms = ms.saturating_add(1);
-        if fail.is_some() {
-            return Err(self.failed());
-        }
         Ok(())
+    }
+
+    // Takes a step of ours, unless it fails. What is marked of a step that takes place is a copy, made before anything else.
+    fn take(&mut self, step: Step, fail: Option<bool>) -> Result<(), StoreErr>
+        ensures took { Took self.old.history self.new.history (StepAnswer step result) }
+        ensures neighbour { self.new.neighbour ≡ self.old.neighbour }
+        ensures cause { HasCause self.old.faults self.new.faults result }
+        ensures halted { MarksFailure (StoreCall.Take step) self.old.halted self.new.halted (Some self.new.history) result }
+        ensures planned { AsPlanned fail result }
+        ensures fails { self.new.fails ≡ self.old.fails }
+        ensures calls { self.new.calls ≡ self.old.calls }
+    {
+        match fail {
+            None => Ok(self.add(step)?),
+            Some(false) => Err(self.failed(StoreCall::Take(step))),
+            Some(true) => {
+                let call = StoreCall::Take(step.copy()?);
+                self.add(step)?;
+                Err(self.failed(call))
+            }
+        }
     }
 }
 
@@ -247,12 +269,12 @@ impl<M: Manners, N: Neighbour<M>> Store<M> for MemStore<N> {
         ensures told { Answers (M.allows (N.manners self.old.neighbour)) (Some self.old.history) (Some self.new.history) (NamesAnswer dir.now result) }
         ensures manners { N.manners self.new.neighbour ≡ N.manners self.old.neighbour }
         ensures cause { HasCause self.old.faults self.new.faults result }
-        ensures halted { MarksFailure self.old.halted self.new.halted (Some self.new.history) result }
+        ensures halted { MarksFailure (StoreCall.Look dir.now) self.old.halted self.new.halted (Some self.new.history) result }
         ensures planned { AsPlanned (fail_at self.old.fails self.old.calls) result }
         ensures calls { self.new.calls ≡ next_moment self.old.calls }
         ensures fails { self.new.fails ≡ self.old.fails }
     {
-        begin_reading::<M, N>(self)?;
+        begin_reading::<M, N>(self, dir)?;
         Ok(Items::new(self.history.list(self.alloc, dir)?))
     }
 
@@ -260,12 +282,12 @@ impl<M: Manners, N: Neighbour<M>> Store<M> for MemStore<N> {
         ensures told { Answers (M.allows (N.manners self.old.neighbour)) (Some self.old.history) (Some self.new.history) (SizeAnswer place.now result) }
         ensures manners { N.manners self.new.neighbour ≡ N.manners self.old.neighbour }
         ensures cause { HasCause self.old.faults self.new.faults result }
-        ensures halted { MarksFailure self.old.halted self.new.halted (Some self.new.history) result }
+        ensures halted { MarksFailure (StoreCall.Look place.now) self.old.halted self.new.halted (Some self.new.history) result }
         ensures planned { AsPlanned (fail_at self.old.fails self.old.calls) result }
         ensures calls { self.new.calls ≡ next_moment self.old.calls }
         ensures fails { self.new.fails ≡ self.old.fails }
     {
-        begin_reading::<M, N>(self)?;
+        begin_reading::<M, N>(self, place)?;
         match self.history.find(place) {
             Some(held) => Ok(Some(held.bytes.len() as u64)),
             None => Ok(None),
@@ -276,12 +298,12 @@ impl<M: Manners, N: Neighbour<M>> Store<M> for MemStore<N> {
         ensures told { Answers (M.allows (N.manners self.old.neighbour)) (Some self.old.history) (Some self.new.history) (ReadAnswer place.now from len result) }
         ensures manners { N.manners self.new.neighbour ≡ N.manners self.old.neighbour }
         ensures cause { HasCause self.old.faults self.new.faults result }
-        ensures halted { MarksFailure self.old.halted self.new.halted (Some self.new.history) result }
+        ensures halted { MarksFailure (StoreCall.Look place.now) self.old.halted self.new.halted (Some self.new.history) result }
         ensures planned { AsPlanned (fail_at self.old.fails self.old.calls) result }
         ensures calls { self.new.calls ≡ next_moment self.old.calls }
         ensures fails { self.new.fails ≡ self.old.fails }
     {
-        begin_reading::<M, N>(self)?;
+        begin_reading::<M, N>(self, place)?;
         match self.history.find(place) {
             Some(held) => Ok(Some(held.bytes.part(self.alloc, from, len)?)),
             None => Ok(None),
@@ -292,7 +314,7 @@ impl<M: Manners, N: Neighbour<M>> Store<M> for MemStore<N> {
         ensures told { Answers (M.allows (N.manners self.old.neighbour)) (Some self.old.history) (Some self.new.history) (CreateAnswer place.now result) }
         ensures manners { N.manners self.new.neighbour ≡ N.manners self.old.neighbour }
         ensures cause { HasCause self.old.faults self.new.faults result }
-        ensures halted { MarksFailure self.old.halted self.new.halted (Some self.new.history) result }
+        ensures halted { MarksFailure (StoreCall.Take (Step.Create place.now)) self.old.halted self.new.halted (Some self.new.history) result }
         ensures planned { AsPlanned (fail_at self.old.fails self.old.calls) result }
         ensures calls { self.new.calls ≡ next_moment self.old.calls }
         ensures fails { self.new.fails ≡ self.old.fails }
@@ -300,7 +322,8 @@ impl<M: Manners, N: Neighbour<M>> Store<M> for MemStore<N> {
         let fail = begin::<M, N>(self)?;
         if self.history.find(place).is_some() {
             if fail.is_some() {
-                return Err(self.failed());
+                let call = StoreCall::Take(Step::Create(place.copy()?));
+                return Err(self.failed(call));
             }
             return Ok(Made::Exists);
         }
@@ -314,7 +337,7 @@ impl<M: Manners, N: Neighbour<M>> Store<M> for MemStore<N> {
         ensures told { Answers (M.allows (N.manners self.old.neighbour)) (Some self.old.history) (Some self.new.history) (AppendAnswer place.now bytes.now result) }
         ensures manners { N.manners self.new.neighbour ≡ N.manners self.old.neighbour }
         ensures cause { HasCause self.old.faults self.new.faults result }
-        ensures halted { MarksFailure self.old.halted self.new.halted (Some self.new.history) result }
+        ensures halted { MarksFailure (StoreCall.Take (Step.Append place.now bytes.now)) self.old.halted self.new.halted (Some self.new.history) result }
         ensures planned { AsPlanned (fail_at self.old.fails self.old.calls) result }
         ensures calls { self.new.calls ≡ next_moment self.old.calls }
         ensures fails { self.new.fails ≡ self.old.fails }
@@ -328,7 +351,7 @@ impl<M: Manners, N: Neighbour<M>> Store<M> for MemStore<N> {
         ensures told { Answers (M.allows (N.manners self.old.neighbour)) (Some self.old.history) (Some self.new.history) (PlainAnswer (Step.Seal place.now) result) }
         ensures manners { N.manners self.new.neighbour ≡ N.manners self.old.neighbour }
         ensures cause { HasCause self.old.faults self.new.faults result }
-        ensures halted { MarksFailure self.old.halted self.new.halted (Some self.new.history) result }
+        ensures halted { MarksFailure (StoreCall.Take (Step.Seal place.now)) self.old.halted self.new.halted (Some self.new.history) result }
         ensures planned { AsPlanned (fail_at self.old.fails self.old.calls) result }
         ensures calls { self.new.calls ≡ next_moment self.old.calls }
         ensures fails { self.new.fails ≡ self.old.fails }
@@ -341,7 +364,7 @@ impl<M: Manners, N: Neighbour<M>> Store<M> for MemStore<N> {
         ensures told { Answers (M.allows (N.manners self.old.neighbour)) (Some self.old.history) (Some self.new.history) (RenameAnswer from.now to.now result) }
         ensures manners { N.manners self.new.neighbour ≡ N.manners self.old.neighbour }
         ensures cause { HasCause self.old.faults self.new.faults result }
-        ensures halted { MarksFailure self.old.halted self.new.halted (Some self.new.history) result }
+        ensures halted { MarksFailure (StoreCall.Take (Step.Rename from.now to.now)) self.old.halted self.new.halted (Some self.new.history) result }
         ensures planned { AsPlanned (fail_at self.old.fails self.old.calls) result }
         ensures calls { self.new.calls ≡ next_moment self.old.calls }
         ensures fails { self.new.fails ≡ self.old.fails }
@@ -349,7 +372,8 @@ impl<M: Manners, N: Neighbour<M>> Store<M> for MemStore<N> {
         let fail = begin::<M, N>(self)?;
         if self.history.find(to).is_some() {
             if fail.is_some() {
-                return Err(self.failed());
+                let call = StoreCall::Take(Step::Rename(from.copy()?, to.copy()?));
+                return Err(self.failed(call));
             }
             return Ok(Moved::Exists);
         }
@@ -363,7 +387,7 @@ impl<M: Manners, N: Neighbour<M>> Store<M> for MemStore<N> {
         ensures told { Answers (M.allows (N.manners self.old.neighbour)) (Some self.old.history) (Some self.new.history) (RemoveAnswer place.now result) }
         ensures manners { N.manners self.new.neighbour ≡ N.manners self.old.neighbour }
         ensures cause { HasCause self.old.faults self.new.faults result }
-        ensures halted { MarksFailure self.old.halted self.new.halted (Some self.new.history) result }
+        ensures halted { MarksFailure (StoreCall.Take (Step.Remove place.now)) self.old.halted self.new.halted (Some self.new.history) result }
         ensures planned { AsPlanned (fail_at self.old.fails self.old.calls) result }
         ensures calls { self.new.calls ≡ next_moment self.old.calls }
         ensures fails { self.new.fails ≡ self.old.fails }
@@ -371,7 +395,8 @@ impl<M: Manners, N: Neighbour<M>> Store<M> for MemStore<N> {
         let fail = begin::<M, N>(self)?;
         if self.history.find(place).is_none() {
             if fail.is_some() {
-                return Err(self.failed());
+                let call = StoreCall::Take(Step::Remove(place.copy()?));
+                return Err(self.failed(call));
             }
             return Ok(Gone::Absent);
         }
@@ -385,7 +410,7 @@ impl<M: Manners, N: Neighbour<M>> Store<M> for MemStore<N> {
         ensures told { Answers (M.allows (N.manners self.old.neighbour)) (Some self.old.history) (Some self.new.history) (PlainAnswer Step.SyncNames result) }
         ensures manners { N.manners self.new.neighbour ≡ N.manners self.old.neighbour }
         ensures cause { HasCause self.old.faults self.new.faults result }
-        ensures halted { MarksFailure self.old.halted self.new.halted (Some self.new.history) result }
+        ensures halted { MarksFailure (StoreCall.Take Step.SyncNames) self.old.halted self.new.halted (Some self.new.history) result }
         ensures planned { AsPlanned (fail_at self.old.fails self.old.calls) result }
         ensures calls { self.new.calls ≡ next_moment self.old.calls }
         ensures fails { self.new.fails ≡ self.old.fails }

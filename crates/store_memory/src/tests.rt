@@ -1,7 +1,7 @@
 use crate::{Choice, CountIds, FailAt, FixedClock, MemSink, MemStore, NumberList, Quiet, Torn};
 use ice_store::{
-    Alone, Bytes, Clock, Gone, Ids, Items, Made, Moved, Place, PlaceErr, Sink, Store, StoreErr,
-    Text,
+    Alone, Bytes, Clock, Gone, Ids, Items, Made, Moved, Place, PlaceErr, Sink, Step, Store,
+    StoreCall, StoreErr, Text,
 };
 use std::alloc::Global;
 use std::test::Fail;
@@ -97,8 +97,8 @@ fn removed(store: &mut Solo, place: &Place) -> Result<bool, StoreErr> {
     Ok(matches!(store.remove(place)?, Gone::Done))
 }
 
-fn size(store: &mut Solo, place: &Place) -> Result<Option<u64>, Fail> {
-    Ok(store.size(place)?)
+fn size(store: &mut Solo, place: &Place) -> Result<Option<u64>, StoreErr> {
+    store.size(place)
 }
 
 fn reads(store: &mut Solo, place: &Place, from: u64, want: &[u8]) -> Result<bool, Fail> {
@@ -187,7 +187,7 @@ fn a_crash_tears_an_unsealed_file(rt: HostRuntime) -> Result<(), Fail> {
 
 // Failures.
 
-fn nine_calls(store: &mut Solo, a: &Place, b: &Place) {
+fn ten_calls(store: &mut Solo, a: &Place, b: &Place) {
     let _ = made(store, a);
     let _ = made(store, a);
     let _ = appended(store, a, b"xy");
@@ -197,33 +197,68 @@ fn nine_calls(store: &mut Solo, a: &Place, b: &Place) {
     let _ = synced(store);
     let _ = removed(store, b);
     let _ = removed(store, b);
+    let _ = size(store, b);
 }
 
-fn failing_at(alloc: Global, call: u64, took: bool) -> Result<(usize, u64, Option<usize>), Fail> {
+// a call by its name, the text of its place, and where it has them its bytes or its second place
+fn words_of(call: &StoreCall) -> (&'static str, &[u8], &[u8]) {
+    match call {
+        StoreCall::Look(place) => ("look", place.as_bytes(), b""),
+        StoreCall::Take(Step::Create(place)) => ("create", place.as_bytes(), b""),
+        StoreCall::Take(Step::Append(place, more)) => ("append", place.as_bytes(), more.inner()),
+        StoreCall::Take(Step::Seal(place)) => ("seal", place.as_bytes(), b""),
+        StoreCall::Take(Step::Rename(from, to)) => ("rename", from.as_bytes(), to.as_bytes()),
+        StoreCall::Take(Step::Remove(place)) => ("remove", place.as_bytes(), b""),
+        StoreCall::Take(Step::SyncNames) => ("sync", b"", b""),
+    }
+}
+
+fn failing_at(alloc: Global, call: u64, took: bool) -> Result<Solo, Fail> {
     let later = FailAt { call, took: !took };
     let fails = vec![in alloc; FailAt { call, took }, later]?;
     let mut store = empty_store(alloc, fails)?;
-    nine_calls(&mut store, &place(alloc, "/w/a")?, &place(alloc, "/w/b")?);
-    Ok((store.past().events.len(), store.faults, store.halted))
+    ten_calls(&mut store, &place(alloc, "/w/a")?, &place(alloc, "/w/b")?);
+    Ok(store)
+}
+
+fn is_marked(store: &Solo, events: usize, name: &str, first: &str, second: &str) -> bool {
+    match &store.halted {
+        Some(failure) => {
+            let words = words_of(&failure.call);
+            failure.events == events
+                && words.0 == name
+                && words.1 == first.as_bytes()
+                && words.2 == second.as_bytes()
+        }
+        None => false,
+    }
 }
 
 #[test]
 fn planned_calls_fail(rt: HostRuntime) -> Result<(), Fail> {
-    for (call, took, events, faults, halted) in [
-        (0, true, 7, 1, Some(1)),
-        (0, false, 7, 1, Some(0)),
-        (1, true, 7, 1, Some(1)),
-        (3, true, 7, 1, Some(3)),
-        (3, false, 6, 1, Some(2)),
-        (8, true, 7, 1, Some(7)),
-        (9, true, 7, 0, None),
+    for (call, took, events, halted, name, first, second) in [
+        (0, true, 7, 1, "create", "/w/a", ""),
+        (0, false, 7, 0, "create", "/w/a", ""),
+        (1, true, 7, 1, "create", "/w/a", ""),
+        (2, true, 7, 2, "append", "/w/a", "xy"),
+        (3, true, 7, 3, "seal", "/w/a", ""),
+        (3, false, 6, 2, "seal", "/w/a", ""),
+        (4, true, 7, 4, "sync", "", ""),
+        (5, true, 7, 5, "rename", "/w/a", "/w/b"),
+        (8, true, 7, 7, "remove", "/w/b", ""),
+        (9, true, 7, 7, "look", "/w/b", ""),
     ] {
+        let store = failing_at(rt.alloc(), call, took)?;
         assert_eq!(rt;
-            failing_at(rt.alloc(), call, took)?,
-            (events, faults, halted),
+            (store.past().events.len(), store.faults),
+            (events, 1),
             "{call}"
         );
+        assert!(rt; is_marked(&store, halted, name, first, second), "{call}");
     }
+    let store = failing_at(rt.alloc(), 10, true)?;
+    assert_eq!(rt; (store.past().events.len(), store.faults), (7, 0));
+    assert!(rt; store.halted.is_none());
     Ok(())
 }
 

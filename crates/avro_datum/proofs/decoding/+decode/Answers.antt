@@ -22,7 +22,7 @@ some-loop-preserved t c = record {
 pub blocks-loop-init : goal.blocks-loop-init
 blocks-loop-init t c = record {
   within = c.requires;
-  so_far = ap (λ ds. with_front ds (blocks_at causes (read (form_of c.args.item.now)) (length c.args.bytes.now - c.args.at + 1 - 0) most_items (drop c.args.at c.args.bytes.now))) c.new-items.ensures ∙ turns_are causes (read (form_of c.args.item.now)) most_items c.args.bytes.now c.args.at;
+  so_far = rw c.most_items-room.ensures (ap (λ ds. with_front ds (blocks_at causes (read (form_of c.args.item.now)) (length c.args.bytes.now - c.args.at + 1 - 0) most_items (drop c.args.at c.args.bytes.now))) c.new-items.ensures ∙ turns_are causes (read (form_of c.args.item.now)) most_items c.args.bytes.now c.args.at);
 }
 
 pub blocks-returns-in_err-head : goal.blocks-returns-in_err-head
@@ -83,7 +83,7 @@ pairs-loop-preserved t c = record {
 pub pair_blocks-loop-init : goal.pair_blocks-loop-init
 pair_blocks-loop-init t c = record {
   within = c.requires;
-  so_far = ap (λ ds. with_front ds (blocks_at causes (entry_at (read (form_of c.args.inner.now))) (length c.args.bytes.now - c.args.at + 1 - 0) most_items (drop c.args.at c.args.bytes.now))) c.new-items.ensures ∙ turns_are causes (entry_at (read (form_of c.args.inner.now))) most_items c.args.bytes.now c.args.at;
+  so_far = rw c.most_items-room.ensures (ap (λ ds. with_front ds (blocks_at causes (entry_at (read (form_of c.args.inner.now))) (length c.args.bytes.now - c.args.at + 1 - 0) most_items (drop c.args.at c.args.bytes.now))) c.new-items.ensures ∙ turns_are causes (entry_at (read (form_of c.args.inner.now))) most_items c.args.bytes.now c.args.at);
 }
 
 pub pair_blocks-returns-in_err-head : goal.pair_blocks-returns-in_err-head

@@ -7,6 +7,7 @@ use Rattle.avro_container.proofs.Ends.{items_on, items_over, items_end_in, list_
 use Rattle.avro_pieces.specs.declared.fault.DatumCause.TheVariants.{Short, BadSize}
 use Rattle.avro_datum.specs.Reading.{entry_at, read}
 use Rattle.avro_pieces.specs.Pieces.{causes}
+use Rattle.avro_datum.proofs.NoBytes.{ends_there, items_of_none}
 use Rattle.avro_datum.proofs.skipping.+skip.Goals as goal
 
 pub past_some-returns-in_err-end : goal.past_some-returns-in_err-end
@@ -18,6 +19,12 @@ past_some-loop-preserved t c = record {
   within = c.in_ok-end.ensures.1;
   so_far = items_on (read (form_of c.args.item.now)) c.args.count c.loop.counter _ _ _ c.loop-test.true c.in_ok-end.ensures.0 c.loop.invariant.so_far;
 }
+
+pub past_some-returns-then-takes_none : goal.past_some-returns-then-takes_none
+past_some-returns-then-takes_none t c = (
+  items_of_none (read (form_of c.args.item.now)) c.args.count _ (ends_there (form_of c.args.item.now) _ (sym c.takes_none.ensures ∙ c.if-takes_none.true)),
+  c.requires,
+)
 
 pub past_some-returns : goal.past_some-returns
 past_some-returns t c = (sym c.loop.invariant.so_far ∙ items_over (read (form_of c.args.item.now)) c.args.count c.loop.counter _ c.loop-test.false, c.loop.invariant.within)

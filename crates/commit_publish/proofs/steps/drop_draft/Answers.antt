@@ -11,6 +11,7 @@ use Rattle.commit_publish.specs.declared.steps.PublishCall.TheVariants as asked
 use Rattle.commit_publish.specs.declared.steps.StepErr.{StepErr}
 use Rattle.commit_publish.proofs.CallLaws as calls
 use Rattle.commit_publish.proofs.CallLaws.{RR, K0, KD, KT}
+use Rattle.commit_publish.proofs.TakenLaws.{dropped_taken}
 use Rattle.commit_publish.proofs.Working.{work, never}
 use Rattle.commit_publish.proofs.steps.drop_draft.Goals as goal
 
@@ -62,3 +63,18 @@ returns-in-Err-sync_names-clause-told g c =
     let p2 = g.S.Store.past c.sync_names.new.self in
     let told = since_call (may (g.S.Store.manners c.args.store.now)) p0 p1 p2 Told1 (calls.Stopping x x.bytes (draft_plan x.route.draft x.bytes) asked.SyncRemoval c.in-Err-sync_names.cause) (PlainAnswer SyncNames (Err c.in-Err-sync_names.cause)) r1 (subst (λ m. Answers (may m) p1 p2 (PlainAnswer SyncNames (Err c.in-Err-sync_names.cause))) q1 (c.in-Err-sync_names.ensures.told)) (λ old now new h told. calls.dropped_err x old now new h c.in-Err-sync_names.cause told) in
     subst (λ (e : StepErr). Since p0 p2 (DropLeaves x.rules x.route x.bytes (Err e))) (sym c.stopped-in-Err-sync_names.ensures) told
+
+pub returns-in-Err-clause-taken : goal.returns-in-Err-clause-taken
+returns-in-Err-clause-taken g c =
+    let x = work g.R.TableReading.content g.R.TableReading.localized (g.M.Manners.allows (g.S.Store.manners c.args.store.now)) c.args.route.now c.args.bytes.now c.requires.mannered c.requires.aim in
+    dropped_taken x (Err c.stopped.result) (g.S.Store.past c.args.store.now) (g.S.Store.past c.remove.new.self) c.requires.start (returns-in-Err-clause-told g c)
+
+pub returns-in-Ok-sync_names-clause-taken : goal.returns-in-Ok-sync_names-clause-taken
+returns-in-Ok-sync_names-clause-taken g c =
+    let x = work g.R.TableReading.content g.R.TableReading.localized (g.M.Manners.allows (g.S.Store.manners c.args.store.now)) c.args.route.now c.args.bytes.now c.requires.mannered c.requires.aim in
+    dropped_taken x (Ok tt) (g.S.Store.past c.args.store.now) (g.S.Store.past c.sync_names.new.self) c.requires.start (returns-in-Ok-sync_names-clause-told g c)
+
+pub returns-in-Err-sync_names-clause-taken : goal.returns-in-Err-sync_names-clause-taken
+returns-in-Err-sync_names-clause-taken g c =
+    let x = work g.R.TableReading.content g.R.TableReading.localized (g.M.Manners.allows (g.S.Store.manners c.args.store.now)) c.args.route.now c.args.bytes.now c.requires.mannered c.requires.aim in
+    dropped_taken x (Err c.stopped-in-Err-sync_names.result) (g.S.Store.past c.args.store.now) (g.S.Store.past c.sync_names.new.self) c.requires.start (returns-in-Err-sync_names-clause-told g c)
