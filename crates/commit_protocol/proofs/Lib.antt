@@ -4,6 +4,7 @@ pub mod StepLaws
 pub mod QuietLaws
 pub mod VerdictLaws
 pub mod UniqueLaws
+pub mod RestartLaws
 pub mod ReopenLaws
 pub mod EndLaws
 pub mod WorkLaws

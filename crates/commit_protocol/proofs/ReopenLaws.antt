@@ -4,11 +4,12 @@ use Rattle.serde_json.specs.Data.{Data}
 use Rattle.serde_json.specs.View.{view}
 use Rattle.ice_store.specs.Places.{Parts}
 use Rattle.ice_store.specs.Files.{find}
+use Rattle.ice_store.specs.History.{replay}
 use Rattle.ice_store.specs.declared.history.Held.{Held}
 use Rattle.commit_history.specs.Tables.{version, table as table_in, table_at, sealed_at, sealed_bytes, Whole, IsGood}
 use Rattle.commit_history.specs.Versions.{number_in}
-use Rattle.commit_history.specs.Commits.{Reopens, standing, found}
-use Rattle.commit_history.proofs.Agreeing.{version_named, table_is}
+use Rattle.commit_history.specs.Commits.{IsLast, Reopens, standing, found}
+use Rattle.commit_history.proofs.Agreeing.{Agrees, same_table, still_whole, version_named, table_is}
 use Rattle.commit_history.proofs.Manners.{law}
 use Rattle.commit_history.proofs.Numbering.{numbering}
 use Rattle.table_metadata.specs.Spelling.{Spells}
@@ -16,9 +17,10 @@ use Rattle.commit_versions.specs.Opening.{version_limit}
 use Rattle.commit_versions.specs.declared.types.OpenErr.{OpenErr}
 use Rattle.commit_versions.specs.declared.types.OpenErr.TheVariants.{NoTable}
 use Rattle.commit_protocol.specs.Metadata.{metadata_reading, metadata_local}
-use Rattle.commit_protocol.specs.Promises.{ReopensOpened, Shows}
+use Rattle.commit_protocol.specs.Promises.{ReopensOpened, Shows, kept_commits, restarted}
 use Rattle.commit_protocol.specs.Verdicts.{IsLastFile, IsTable, OpenVerdict, IsOpeningTold, Shown, shown}
 use Rattle.commit_protocol.specs.declared.opening.At.{At}
+use Rattle.commit_protocol.proofs.RestartLaws.{begun_agrees}
 use Rattle.commit_protocol.proofs.UniqueLaws.{Answer, OpenCase, one_case, case_of, case_of_table}
 
 sealed_file : (o : Option Held) (bytes : List ℕ) → sealed_bytes o ≡ Some bytes → (h : Held) × (o ≡ Some h) × (h.bytes ≡ bytes)
@@ -86,5 +88,11 @@ module _ (table : Parts) (files : List Held) where
 
 pub reopens : (table : Parts) → ReopensOpened table
 reopens table past files result steady image below told verdict =
-    let r : Reopens (metadata_reading table) (standing (number_in table) past) files = law (metadata_reading table) (numbering table) (metadata_local table) past steady files image in
-    record { count = r.count; last = table_in (number_in table) (found files); is_last = r.last; shows = shown_by table (found files) result told verdict r.whole below }
+    let reading = metadata_reading table in
+    let begun = (replay (restarted files)).files in
+    let r : Reopens reading (standing (number_in table) past) files = law reading (numbering table) (metadata_local table) past steady files image in
+    let agrees : Agrees reading (found files) begun = begun_agrees reading files in
+    let whole : Whole reading begun = still_whole reading (found files) begun agrees (numbering table) (metadata_local table) r.whole in
+    let same : table_in (number_in table) begun ≡ table_in (number_in table) (found files) = same_table reading (found files) begun agrees (numbering table) (metadata_local table) r.whole in
+    let is_last : IsLast (kept_commits table past r.count) (table_in (number_in table) begun) = subst (λ (t : Option (List ℕ)). IsLast (kept_commits table past r.count) t) (sym same) r.last in
+    record { count = r.count; last = table_in (number_in table) begun; is_last = is_last; shows = shown_by table begun result told verdict whole below }

@@ -103,7 +103,11 @@ pub record Reopened (table : Parts) (past : Past) (result : Result At OpenErr) :
   pub is_last : IsLast (kept_commits table past count) last
   pub shows : Shows last table result
 
--- whatever a stop of a steady history leaves is opened so, where nobody else acts and its version is within the limit: no other answer but a fault or want of memory has its cause there
+-- a history that begins with these files: that of a store that starts on them
+abbrev pub restarted : List FileRec → Past
+restarted files = record { base = files; events = [] }
+
+-- whatever a stop of a steady history leaves is opened so by a store that starts on it, where nobody else acts and its version is within the limit: no other answer but a fault or want of memory has its cause there
 abbrev pub ReopensOpened : Parts → Type 0
 ReopensOpened table = (past : Past) (files : List FileRec) (result : Result At OpenErr) → IsSteady (metadata_reading table) past → IsImage (replay past) files
-    → version (number_in table) (found files) < version_limit → IsOpeningTold result → OpenVerdict table (found files) result → Reopened table past result
+    → version (number_in table) (replay (restarted files)).files < version_limit → IsOpeningTold result → OpenVerdict table (replay (restarted files)).files result → Reopened table past result

@@ -20,8 +20,8 @@ pub fn one_commit<M: Manners, X: Change<M>>(table: &Place, change: &X)
         → IsOneCommit table.now now (X.meanings change.now change.now) (Gives before (Some values)) }
 {}
 
-/// Reopening after a stop: what a stop of a steady history leaves is opened as the table after a prefix of the commits that
-/// holds every acknowledged one.
+/// Reopening after a stop: what a stop of a steady history leaves is opened, in a history that begins with it, as the table
+/// after a prefix of the commits that holds every acknowledged one.
 pub fn stops_are_reopened(table: &Place)
     ensures { ReopensOpened table.now }
 {}
