@@ -266,11 +266,7 @@ fn list_slots(alloc: Global, slots: &[Option<Held>], dir: &Place) -> Result<Vec<
     Ok(listed)
 }
 
-fn push_listed(
-    listed: &mut Vec<Listed>,
-    slot: &Option<Held>,
-    dir: &Place,
-) -> Result<(), AllocError>
+fn push_listed(listed: &mut Vec<Listed>, slot: &Option<Held>, dir: &Place) -> Result<(), AllocError>
     ensures { OnOk result (listed.new.items ≡ listed.old.items ++ map listed_of (filter (λ held. is_under held.place dir.now) (standing (slot.now ∷ [])))) }
 {
     match slot {

@@ -4,7 +4,6 @@ use Rattle.store_memory.specs.Slots.{standing, cleared, number_at, Tells, AreNum
 use Rattle.store_memory.proofs.SlotLaws.{files_put}
 use Rattle.store_memory.proofs.files.Files.put.Goals as goal
 
-
 pub invariant_of-self-2 : goal.invariant_of-self-2
 invariant_of-self-2 c =
     let slots = c.self.inside.slots.items in

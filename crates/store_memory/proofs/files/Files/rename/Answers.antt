@@ -22,7 +22,7 @@ now_renamed c =
     let tells = subst (λ (k : ℕ). Tells (without_number f from) g to (Some k)) len c.in_ok-old.ensures.ok in
     let rest : c.clear.new.slots.items ≡ cleared (slice_set slots n None) old = search rules in
     let all : c.push_reserved.new.slots.items ≡ cleared (slice_set slots n None) old ++ Some (moved to held) ∷ [] =
-        c.push_reserved.ensures ∙ ap (λ (p : Parts). c.clear.new.slots.items ++ Some (moved p held) ∷ []) c.in_ok-place.ensures ∙ ap (λ l. l ++ Some (moved to held) ∷ []) rest in
+    c.push_reserved.ensures ∙ ap (λ (p : Parts). c.clear.new.slots.items ++ Some (moved p held) ∷ []) c.in_ok-place.ensures ∙ ap (λ l. l ++ Some (moved to held) ∷ []) rest in
     let done = files_renamed slots f g from to n held old c.self.invariant some is c.in_ok-old.ensures.old tells in
     record { numbered = subst (λ l. AreNumbered l g) (sym all) done.numbered; are = ap standing all ∙ done.are }
 
