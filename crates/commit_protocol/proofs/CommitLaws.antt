@@ -30,8 +30,8 @@ use Rattle.commit_publish.proofs.CallLaws as calls
 use Rattle.commit_publish.proofs.CallLaws.{Work, RR}
 use Rattle.commit_versions.specs.Names.{version_text_of}
 use Rattle.commit_versions.specs.Opening.{OpenStage, file_limit}
-use Rattle.commit_protocol.specs.Meanings.{Meanings, only}
-use Rattle.commit_protocol.specs.Metadata.{IsMetadata, IsAt, metadata_content, metadata_rules, metadata_local}
+use Rattle.commit_protocol.specs.Meanings.{Meanings, only_successor}
+use Rattle.commit_protocol.specs.Metadata.{IsMetadata, IsAt, metadata_content, table_rules, metadata_local}
 use Rattle.commit_protocol.specs.Attempts.{Drafted, RefusedBy, TellsLimit, AttemptLeaves, CommitLeaves, stopped_at}
 use Rattle.commit_protocol.specs.Written.{IsOn, next_tree, IsWritten, IsUnwritten, commit_error_by, stop_error, PublishedLeaves, version_at}
 use Rattle.commit_protocol.specs.declared.opening.At.{At}
@@ -64,18 +64,18 @@ module _ (x : Work) (K : Past → Type 0) (old mid new : Past) (idle : RR x (Exa
 pub metadata_narrow : (table : Parts) (bytes : List ℕ) (tree : Data) → IsMetadata table bytes tree → length bytes ≤ file_limit → IsNarrow (metadata_content table) bytes
 metadata_narrow table bytes tree is short = record { good = λ sealed. ((tree, is), short); unreached = λ other sealed place r. absurd r }
 
-module _ (table : Parts) (allows : Past → Step → Type 0) (mannered : IsMannered (metadata_rules table allows)) (now : ℕ) (Drawn : ℕ → Type 0) where
+module _ (table : Parts) (allows : Past → Step → Type 0) (mannered : IsMannered (table_rules table allows)) (now : ℕ) (Drawn : ℕ → Type 0) where
   abbrev pub Idle_ : (Past → Type 0) → Past → Past → Type 0
-  Idle_ = Ran (metadata_rules table allows) (Exactly [])
+  Idle_ = Ran (table_rules table allows) (Exactly [])
 
   forget : (K : Past → Type 0) (old new : Past) → Idle_ K old new → Idle_ Anything old new
-  forget K old new run = ran_turned (metadata_rules table allows) (Exactly []) (Exactly []) K Anything old new run (λ l e. e) (λ h. tt)
+  forget K old new run = ran_turned (table_rules table allows) (Exactly []) (Exactly []) K Anything old new run (λ l e. e) (λ h. tt)
 
   idle_then : (K L : Past → Type 0) (old mid new : Past) → Idle_ K old mid → Idle_ L mid new → Idle_ L old new
-  idle_then K L old mid new a b = ran_then (metadata_rules table allows) (Exactly []) (Exactly []) (Exactly []) K L (λ l k e f. ap (λ (z : List Step). z ++ k) e ∙ f) old mid new a b
+  idle_then K L old mid new a b = ran_then (table_rules table allows) (Exactly []) (Exactly []) (Exactly []) K L (λ l k e f. ap (λ (z : List Step). z ++ k) e ∙ f) old mid new a b
 
   pub stays : (K : Past → Type 0) (old : Past) → K old → Idle_ K old old
-  stays K old here = begins (metadata_rules table allows) (numbering table) (metadata_local table) K old here
+  stays K old here = begins (table_rules table allows) (numbering table) (metadata_local table) K old here
 
   pub starts : (K : Past → Type 0) (old : Past) → K old → Idle_ Anything old old
   starts K old here = forget K old old (stays K old here)
@@ -90,7 +90,7 @@ module _ (table : Parts) (allows : Past → Step → Type 0) (mannered : IsManne
     next_is : (at : At) → IsOn base at → next_tree base built now ≡ next_version (version_text_of (location_of (view at.meta)) at.version) now built
     next_is at on = ap (λ (p : List ℕ). next_version p now built) on.previous_is
 
-    drafted : (w : Written) → IsWritten table base built now id w → (at : At) → IsOn base at → Drafted Drawn (only built).successor table now at
+    drafted : (w : Written) → IsWritten table base built now id w → (at : At) → IsOn base at → Drafted Drawn (only_successor built).successor table now at
     drafted w is at on = record {
       id = id;
       drawn = drawn;
@@ -111,7 +111,7 @@ module _ (table : Parts) (allows : Past → Step → Type 0) (mannered : IsManne
 
     module _ (w : Written) (is : IsWritten table base built now id w) (old new : Past) where
       abbrev pub Left : Result (Unit {0}) PublishErr → Type 0
-      Left r = PublishLeaves (metadata_rules table allows) w.route w.bytes r old new
+      Left r = PublishLeaves (table_rules table allows) w.route w.bytes r old new
 
       pub published_ok : Left (Ok tt) → BuiltLeaves (Ok (Published (base.version + 1))) old new
       unfolding drafted
@@ -152,8 +152,8 @@ module _ (table : Parts) (allows : Past → Step → Type 0) (mannered : IsManne
       published_err (publishes.Stopped e) left at on limit = stopped e.call e.cause left at on limit
 
     pub moved_in : (w : Written) (is : IsWritten table base built now id w) (o a : Option Past) (r : Result (Unit {0}) PublishErr)
-        → Since o a (PublishLeaves (rules_of metadata_content w.route.table allows) w.route w.bytes r) → Since o a (PublishLeaves (metadata_rules table allows) w.route w.bytes r)
-    moved_in w is o a r told = subst (λ (t : Parts). Since o a (PublishLeaves (metadata_rules t allows) w.route w.bytes r)) is.table_is told
+        → Since o a (PublishLeaves (rules_of metadata_content w.route.table allows) w.route w.bytes r) → Since o a (PublishLeaves (table_rules table allows) w.route w.bytes r)
+    moved_in w is o a r told = subst (λ (t : Parts). Since o a (PublishLeaves (table_rules t allows) w.route w.bytes r)) is.table_is told
 
     pub unwritten_err : (e : AttemptErr) (old new : Past) → IsUnwritten table base built now id e → Idle_ Anything old new → BuiltLeaves (Err (Attempt e)) old new
     unwritten_err (attempts.Refused refusal) old new is idle at on limit = absurd is
@@ -207,7 +207,7 @@ module _ (table : Parts) (allows : Past → Step → Type 0) (mannered : IsManne
         by_err (attempts.Read Memory) is = inl (forget KO old new run)
 
     module _ (built : Data) (change_is : meanings.successor (view at.meta) built) (limit : HasVersionLimit (view at.meta)) (saw : meanings.seen (view at.meta)) (old mid new : Past) (run : Idle_ KO old mid) where
-      turned : Drafted Drawn (only built).successor table now at → Drafted Drawn meanings.successor table now at
+      turned : Drafted Drawn (only_successor built).successor table now at → Drafted Drawn meanings.successor table now at
       turned d = record {
         id = d.id;
         drawn = d.drawn;
@@ -228,15 +228,15 @@ module _ (table : Parts) (allows : Past → Step → Type 0) (mannered : IsManne
       }
 
       abbrev pub Drafts : Type 0
-      Drafts = Drafted Drawn (only built).successor table now at
+      Drafts = Drafted Drawn (only_successor built).successor table now at
 
-      moved : (d : Drafts) (r : Result (Unit {0}) PublishErr) → PublishLeaves (metadata_rules table allows) d.route d.bytes r mid new → PublishLeaves (metadata_rules table allows) d.route d.bytes r old new
-      moved d r left = publish_after (record { rules = metadata_rules table allows; ruled = numbering table; localized = metadata_local table; mannered = mannered; route = d.route; bytes = d.bytes; aim = d.aim }) KO old mid new run r left
+      moved : (d : Drafts) (r : Result (Unit {0}) PublishErr) → PublishLeaves (table_rules table allows) d.route d.bytes r mid new → PublishLeaves (table_rules table allows) d.route d.bytes r old new
+      moved d r left = publish_after (record { rules = table_rules table allows; ruled = numbering table; localized = metadata_local table; mannered = mannered; route = d.route; bytes = d.bytes; aim = d.aim }) KO old mid new run r left
 
       idle_on : Idle_ Anything mid new → Idle_ Anything old new
       idle_on idle = idle_then KO Anything old mid new run idle
 
-      pub attempt_then : (r : Result Committed CommitErr) → AttemptLeaves table allows (only built) Drawn now at r mid new → Leaves r old new
+      pub attempt_then : (r : Result Committed CommitErr) → AttemptLeaves table allows (only_successor built) Drawn now at r mid new → Leaves r old new
       unfolding turned
       attempt_then (Ok (Same version)) b = absurd b.2
       attempt_then (Ok (Published version)) b = (b.0, limit, saw, record { drafted = turned b.3.drafted; left = moved b.3.drafted (Ok tt) b.3.left })

@@ -24,7 +24,7 @@ use Rattle.commit_publish.specs.declared.publish.PublishErr.TheVariants as publi
 use Rattle.commit_versions.specs.Opening.{OpenMarks}
 use Rattle.commit_versions.specs.declared.types.OpenErr.{OpenErr}
 use Rattle.commit_protocol.specs.Attempts.{TellsLimit}
-use Rattle.commit_protocol.specs.Ends.{Adds, DrawsBy, IsDraft, IsDraftOrBoth, IsPublishFault, LeavesBy}
+use Rattle.commit_protocol.specs.Ends.{AddsPlaces, DrawsBy, IsDraft, IsDraftOrBoth, IsPublishFault, LeavesBy}
 use Rattle.commit_protocol.specs.Kinds.{commit_kind}
 use Rattle.commit_protocol.specs.Written.{IsUnwritten, commit_error_by, stop_error, draft_at, version_at}
 use Rattle.commit_protocol.specs.declared.committing.Base.{Base}
@@ -260,13 +260,13 @@ module _ (draft table : Parts) (version : ℕ) where
       publish_marks (publishes.Stopped e) m = stop_marks e.call e.cause m
 
     module _ (Drawn : ℕ → Type 0) (id : ℕ) (drawn : Drawn id) (draft_is : draft ≡ draft_at table id) (target_is : target ≡ version_at table version) (had has : List Parts) where
-      one_left : has ≡ had ++ draft ∷ [] → Adds (IsDraft Drawn table) had has
+      one_left : has ≡ had ++ draft ∷ [] → AddsPlaces (IsDraft Drawn table) had has
       one_left is = (draft ∷ [], is, (id, drawn, ap (λ (p : Parts). p ∷ []) draft_is))
 
-      one_unknown : has ≡ had ++ draft ∷ [] → Adds (IsDraftOrBoth Drawn table version) had has
+      one_unknown : has ≡ had ++ draft ∷ [] → AddsPlaces (IsDraftOrBoth Drawn table version) had has
       one_unknown is = (draft ∷ [], is, inl (id, drawn, ap (λ (p : Parts). p ∷ []) draft_is))
 
-      two_left : has ≡ had ++ draft ∷ target ∷ [] → Adds (IsDraftOrBoth Drawn table version) had has
+      two_left : has ≡ had ++ draft ∷ target ∷ [] → AddsPlaces (IsDraftOrBoth Drawn table version) had has
       two_left is = (draft ∷ target ∷ [], is, inr (id, drawn, ap (λ (p : Parts). p ∷ target ∷ []) draft_is ∙ ap (λ (p : Parts). draft_at table id ∷ p ∷ []) target_is))
 
       none_left : has ≡ had ++ [] → has ≡ had

@@ -17,7 +17,7 @@ use Rattle.commit_history.specs.Runs.{Ran, Along, IsSafe}
 use Rattle.commit_history.proofs.Following.{standing_disk}
 use Rattle.commit_publish.specs.Stages.{Holds}
 use Rattle.commit_publish.specs.Steps.{Anything}
-use Rattle.commit_protocol.specs.Metadata.{metadata_reading, metadata_rules}
+use Rattle.commit_protocol.specs.Metadata.{metadata_reading, table_rules}
 use Rattle.commit_protocol.specs.Meanings.{Meanings}
 use Rattle.commit_protocol.specs.Attempts.{CommitLeaves}
 use Rattle.commit_protocol.specs.Promises.{IsWholeAt, AtEachStop, HasPrefix, HasFiles, StopsHavePrefix, StopsHaveFiles, Succeeds}
@@ -40,7 +40,7 @@ along_take K past (e ∷ es) (suc n) h = subst K (later-later past (e ∷ []) (t
 
 module _ (table : Parts) (allows : Past → Step → Type 0) (Made : List Step → Type 0) where
   abbrev pub Steps : Past → Past → Type 0
-  Steps = Ran (metadata_rules table allows) Made Anything
+  Steps = Ran (table_rules table allows) Made Anything
 
   module _ (old : Past) (whole : IsWholeAt table old) where
     on_disk : (K : Disk → Type 0) → K (replay old) → K (standing (number_in table) old).disk

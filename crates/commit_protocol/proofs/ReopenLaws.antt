@@ -18,7 +18,7 @@ use Rattle.commit_versions.specs.declared.types.OpenErr.{OpenErr}
 use Rattle.commit_versions.specs.declared.types.OpenErr.TheVariants.{NoTable}
 use Rattle.commit_protocol.specs.Metadata.{metadata_reading, metadata_local}
 use Rattle.commit_protocol.specs.Promises.{ReopensOpened, Shows, kept_commits, restarted}
-use Rattle.commit_protocol.specs.Verdicts.{IsLastFile, IsTable, OpenVerdict, IsOpeningTold, Shown, shown}
+use Rattle.commit_protocol.specs.Verdicts.{IsLastFile, IsTable, OpenVerdict, IsOpeningTold, Shown, opening_shown}
 use Rattle.commit_protocol.specs.declared.opening.At.{At}
 use Rattle.commit_protocol.proofs.RestartLaws.{begun_agrees}
 use Rattle.commit_protocol.proofs.UniqueLaws.{Answer, OpenCase, one_case, case_of, case_of_table}
@@ -54,10 +54,10 @@ module _ (table : Parts) (files : List Held) where
     abbrev pub Case : Answer table files → Type 0
     Case = OpenCase table files
 
-    one : (s : Answer table files) → Case s → shown result ≡ s
-    one s c = one_case table files (shown result) s (case_of table files result told verdict) c
+    one : (s : Answer table files) → Case s → opening_shown result ≡ s
+    one s c = one_case table files (opening_shown result) s (case_of table files result told verdict) c
 
-    failed_so : (r : Result At OpenErr) (e : OpenErr) → shown r ≡ Err e → r ≡ Err e
+    failed_so : (r : Result At OpenErr) (e : OpenErr) → opening_shown r ≡ Err e → r ≡ Err e
     failed_so (Ok at) e is = absurd (cc (is))
     failed_so (Err f) e is = let same : f ≡ e = cc (is) in ap (λ (x : OpenErr). Err x) same
 
@@ -65,7 +65,7 @@ module _ (table : Parts) (files : List Held) where
     empty : version number files ≡ 0 → result ≡ Err (NoTable table)
     empty none = failed_so result (NoTable table) (one (Err (NoTable table)) (inl (none, refl)))
 
-    shows_so : (r : Result At OpenErr) (x : Shown) → shown r ≡ Ok x → Spells x.bytes x.tree → Shows (Some x.bytes) table r
+    shows_so : (r : Result At OpenErr) (x : Shown) → opening_shown r ≡ Ok x → Spells x.bytes x.tree → Shows (Some x.bytes) table r
     shows_so (Ok at) x is spells =
         let same : record { place = at.place; last = at.version; bytes = at.text; tree = view at.meta } ≡ x = cc (is) in
         (at, refl, ap (λ (y : Shown). y.bytes) same, subst (λ (d : Data). Spells x.bytes d) (sym (ap (λ (y : Shown). y.tree) same)) spells)

@@ -21,7 +21,7 @@ use Rattle.commit_versions.specs.Opening.{IsOpened, OpenStage, IsBeyond, IsLong,
 use Rattle.commit_versions.specs.declared.types.OpenErr.{OpenErr}
 use Rattle.commit_versions.specs.declared.types.OpenErr.TheVariants.{NoTable, LocationDiffers, Read}
 use Rattle.commit_protocol.specs.Meanings.{Meanings}
-use Rattle.commit_protocol.specs.Metadata.{OpenErrLeaves, metadata_reading, metadata_rules}
+use Rattle.commit_protocol.specs.Metadata.{OpenErrLeaves, metadata_reading, table_rules}
 use Rattle.ice_store.specs.declared.store.StoreErr.TheVariants as causes
 use Rattle.commit_protocol.specs.Attempts.{PublishedBy, AttemptLeaves, CommitLeaves, Attempted, stopped_at}
 use Rattle.commit_protocol.specs.declared.opening.At.{At}
@@ -39,24 +39,24 @@ module _ (table : Parts) (allows : Past → Step → Type 0) where
   Some_steps steps = Unit {0}
 
   abbrev pub Steps : Past → Past → Type 0
-  Steps = Ran (metadata_rules table allows) Some_steps Anything
+  Steps = Ran (table_rules table allows) Some_steps Anything
 
-  pub some : (M : List Step → Type 0) (K : Past → Type 0) (old new : Past) → Ran (metadata_rules table allows) M K old new → Steps old new
-  some M K old new run = ran_turned (metadata_rules table allows) M Some_steps K Anything old new run (λ l m. tt) (λ k. tt)
+  pub some : (M : List Step → Type 0) (K : Past → Type 0) (old new : Past) → Ran (table_rules table allows) M K old new → Steps old new
+  some M K old new run = ran_turned (table_rules table allows) M Some_steps K Anything old new run (λ l m. tt) (λ k. tt)
 
   pub both : (old mid new : Past) → Steps old mid → Steps mid new → Steps old new
-  both old mid new a b = ran_then (metadata_rules table allows) Some_steps Some_steps Some_steps Anything Anything (λ l k m n. tt) old mid new a b
+  both old mid new a b = ran_then (table_rules table allows) Some_steps Some_steps Some_steps Anything Anything (λ l k m n. tt) old mid new a b
 
   abbrev pub Idle : Past → Past → Type 0
-  Idle = Ran (metadata_rules table allows) (Exactly []) Anything
+  Idle = Ran (table_rules table allows) (Exactly []) Anything
 
-  still : (K : Past → Type 0) (old new : Past) → Ran (metadata_rules table allows) (Exactly []) K old new → Idle old new
-  still K old new run = ran_turned (metadata_rules table allows) (Exactly []) (Exactly []) K Anything old new run (λ l e. e) (λ k. tt)
+  still : (K : Past → Type 0) (old new : Past) → Ran (table_rules table allows) (Exactly []) K old new → Idle old new
+  still K old new run = ran_turned (table_rules table allows) (Exactly []) (Exactly []) K Anything old new run (λ l e. e) (λ k. tt)
 
-  pub opened_idle : (base : Parts) (text : List ℕ) (old now : Past) → IsOpened (metadata_rules table allows) base text old now → Idle old now
+  pub opened_idle : (base : Parts) (text : List ℕ) (old now : Past) → IsOpened (table_rules table allows) base text old now → Idle old now
   opened_idle base text old now o = still (InState (OpenStage number base)) old now o.listed.run
 
-  read_err_idle : (e : ReadErr) (old now : Past) → ReadErrLeaves (metadata_rules table allows) e old now → Idle old now
+  read_err_idle : (e : ReadErr) (old now : Past) → ReadErrLeaves (table_rules table allows) e old now → Idle old now
   read_err_idle (Missing place) old now r = still (InState (λ d. is_named d.files place ≡ false)) old now r.run
   read_err_idle (Damaged place at) old now r = absurd r
   read_err_idle (Unsupported place VersionNumber) old now r = still (InState (λ d. IsBeyond number place d.files)) old now r
@@ -84,7 +84,7 @@ module _ (table : Parts) (allows : Past → Step → Type 0) where
   open_err_idle (Read (StoreFault place)) old now r = read_err_idle (StoreFault place) old now r
   open_err_idle (Read Memory) old now r = read_err_idle Memory old now r
 
-  pub publish_steps : (route : Route) (bytes : List ℕ) (r : Result (Unit {0}) PublishErr) (old new : Past) → PublishLeaves (metadata_rules table allows) route bytes r old new → Steps old new
+  pub publish_steps : (route : Route) (bytes : List ℕ) (r : Result (Unit {0}) PublishErr) (old new : Past) → PublishLeaves (table_rules table allows) route bytes r old new → Steps old new
   publish_steps route bytes (Ok u) old new run = some (Exactly (publish_plan route.draft route.target bytes)) (Publishes (metadata_reading table) route bytes old) old new run
   publish_steps route bytes (Err publishes.NameTaken) old new run = some (Exactly []) (IsNameTaken route) old new run
   publish_steps route bytes (Err publishes.Contended) old new run = some (Exactly (lost_plan route.draft bytes)) (InState (IsLost route.target)) old new run
@@ -95,7 +95,7 @@ module _ (table : Parts) (allows : Past → Step → Type 0) where
       abbrev pub Attempts : Result Committed CommitErr → Type 0
       Attempts r = AttemptLeaves table allows meanings Drawn now at r old new
 
-      idle : Ran (metadata_rules table allows) (Exactly []) Anything old new → Steps old new
+      idle : Ran (table_rules table allows) (Exactly []) Anything old new → Steps old new
       idle run = some (Exactly []) Anything old new run
 
       published : (r : Result (Unit {0}) PublishErr) → PublishedBy table allows meanings Drawn now at r old new → Steps old new

@@ -32,7 +32,7 @@ use Rattle.commit_protocol.specs.Meanings.{Meanings}
 use Rattle.commit_protocol.specs.Metadata.{IsMetadata, IsElsewhere, IsDamaged, IsUnsupported, unsupported}
 use Rattle.commit_protocol.specs.Attempts.{IsNextOf, limit_path}
 use Rattle.commit_protocol.specs.Written.{draft_at}
-use Rattle.commit_protocol.specs.Verdicts.{IsLastFile, IsTable, LimitVerdict, OpenVerdict, Shown, shown, IsOpeningTold, OnBase, IsShort, IsLongText, DrawsUp, CommitVerdict, IsTold, IsDecided, IsOneDrawn}
+use Rattle.commit_protocol.specs.Verdicts.{IsLastFile, IsTable, LimitVerdict, OpenVerdict, Shown, opening_shown, IsOpeningTold, OnBase, IsShort, IsLongText, DrawsUp, CommitVerdict, IsTold, IsDecided, IsOneDrawn}
 use Rattle.commit_protocol.specs.declared.opening.At.{At}
 use Rattle.commit_protocol.specs.declared.errors.AttemptErr.{AttemptErr}
 use Rattle.commit_protocol.specs.declared.errors.AttemptErr.TheVariants as attempts
@@ -121,7 +121,7 @@ module _ (table : Parts) (files : List Held) where
   limit_case place NoManifestList v = absurd v
   limit_case place Sequence v = absurd v
 
-  pub case_of : (r : Result At OpenErr) → IsOpeningTold r → OpenVerdict table files r → OpenCase (shown r)
+  pub case_of : (r : Result At OpenErr) → IsOpeningTold r → OpenVerdict table files r → OpenCase (opening_shown r)
   case_of (Ok at) told v = inr (inr (record { place = at.place; last = at.version; bytes = at.text; file = v.file; which = inr (v.short, inr (inr (view at.meta, v.metadata, refl))) }))
   case_of (Err (NoTable place)) told v = inl (v.1, ap (λ (p : Parts). Err (NoTable p)) v.0)
   case_of (Err (LocationDiffers place location)) told v =
@@ -197,8 +197,8 @@ module _ (table : Parts) (files : List Held) where
   one_case r s (inr (inr a)) (inr (inl b)) = absurd (omega (arith, b.1.last, a.file.is_last, a.file.numbers.below))
   one_case r s (inr (inr a)) (inr (inr b)) = one_last r s a b
 
-  pub one_opening_of : (r s : Result At OpenErr) → IsOpeningTold r → IsOpeningTold s → OpenVerdict table files r → OpenVerdict table files s → shown r ≡ shown s
-  one_opening_of r s told_r told_s v w = one_case (shown r) (shown s) (case_of r told_r v) (case_of s told_s w)
+  pub one_opening_of : (r s : Result At OpenErr) → IsOpeningTold r → IsOpeningTold s → OpenVerdict table files r → OpenVerdict table files s → opening_shown r ≡ opening_shown s
+  one_opening_of r s told_r told_s v w = one_case (opening_shown r) (opening_shown s) (case_of r told_r v) (case_of s told_s w)
 
 -- a source that tells gives one value
 pub one_given : (before : Option (List ℕ)) (values : List ℕ) → IsOneDrawn (Gives before (Some values))

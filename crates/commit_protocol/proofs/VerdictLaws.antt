@@ -22,7 +22,7 @@ use Rattle.commit_versions.specs.Opening.{OpenStage, FileIs, IsLong, IsBeyond, I
 use Rattle.commit_versions.specs.declared.types.OpenErr.{OpenErr}
 use Rattle.commit_versions.specs.declared.types.OpenErr.TheVariants.{NoTable, LocationDiffers, Read}
 use Rattle.commit_protocol.specs.Meanings.{Meanings}
-use Rattle.commit_protocol.specs.Metadata.{metadata_rules, HasOpened, IsAt, TableLeaves, OpenErrLeaves}
+use Rattle.commit_protocol.specs.Metadata.{table_rules, HasOpened, IsAt, TableLeaves, OpenErrLeaves}
 use Rattle.commit_protocol.specs.Attempts.{Drafted, RefusedBy, Attempted, AttemptLeaves, CommitLeaves}
 use Rattle.commit_protocol.specs.Verdicts.{IsNobody, IsLastFile, HasLast, IsOverlong, IsTable, LimitVerdict, OpenVerdict, OnBase, IsUnfit, IsShort, DrawsUp, CommitVerdict}
 use Rattle.commit_protocol.specs.declared.opening.At.{At}
@@ -39,17 +39,17 @@ module _ (table : Parts) (allows : Past → Step → Type 0) (nobody : IsNobody 
   number = number_in table
 
   abbrev pub Idle : (Past → Type 0) → Past → Past → Type 0
-  Idle = Ran (metadata_rules table allows) (Exactly [])
+  Idle = Ran (table_rules table allows) (Exactly [])
 
   same : (K : Past → Type 0) (old now : Past) → Idle K old now → now ≡ old
-  same K old now run = unmoved (metadata_rules table allows) nobody K old now run
+  same K old now run = unmoved (table_rules table allows) nobody K old now run
 
   held : (K : Past → Type 0) (old now : Past) → Idle K old now → K old
-  held K old now run = stands (metadata_rules table allows) nobody K old now run
+  held K old now run = stands (table_rules table allows) nobody K old now run
 
   -- An opening.
 
-  module _ (base : Parts) (K : Past → Type 0) (old now : Past) (l : Listed (metadata_rules table allows) base K old now) where
+  module _ (base : Parts) (K : Past → Type 0) (old now : Past) (l : Listed (table_rules table allows) base K old now) where
     same_listing : l.listed ≡ old
     same_listing = same Anything old l.listed l.listing
 
@@ -67,7 +67,7 @@ module _ (table : Parts) (allows : Past → Step → Type 0) (nobody : IsNobody 
         let e : is_named (replay old).files base ≡ false = subst (λ (p : Past). is_named (replay p).files base ≡ false) (same K old now l.run) (gone l.run.stage) in
         absurd (cc (e, named_is))
 
-  module _ (base : Parts) (text : List ℕ) (old now : Past) (o : IsOpened (metadata_rules table allows) base text old now) where
+  module _ (base : Parts) (text : List ℕ) (old now : Past) (o : IsOpened (table_rules table allows) base text old now) where
     abbrev pub KO : Past → Type 0
     KO = InState (OpenStage number base)
 
@@ -85,7 +85,7 @@ module _ (table : Parts) (allows : Past → Step → Type 0) (nobody : IsNobody 
       let file = opened_file at.place at.text old now a.opened in
       record { file = record { is_last = file.is_last ∙ a.numbers.is; numbers = a.numbers; file = file.file }; short = a.opened.short; metadata = a.metadata }
 
-  overlong : (place : Parts) (old now : Past) → Listed (metadata_rules table allows) place (InState (λ d. IsLong place d.files)) old now → IsOverlong table (replay old).files place
+  overlong : (place : Parts) (old now : Past) → Listed (table_rules table allows) place (InState (λ d. IsLong place d.files)) old now → IsOverlong table (replay old).files place
   overlong place old now l =
       let it = held (InState (λ d. IsLong place d.files)) old now l.run in
       record { last = number place; bytes = it.file.bytes; file = last_file place (InState (λ d. IsLong place d.files)) old now l it.file.bytes (record { file = it.file; stands = it.stands; bytes_is = refl }); long = it.long }
@@ -94,7 +94,7 @@ module _ (table : Parts) (allows : Past → Step → Type 0) (nobody : IsNobody 
   abbrev pub Answered : Result At OpenErr → Past → Past → Type 0
   Answered r old now = (now ≡ old) × OpenVerdict table (replay old).files r
 
-  limit_answered : (place : Parts) (what : What) (old now : Past) → ReadErrLeaves (metadata_rules table allows) (Unsupported place what) old now → (now ≡ old) × LimitVerdict table (replay old).files place what
+  limit_answered : (place : Parts) (what : What) (old now : Past) → ReadErrLeaves (table_rules table allows) (Unsupported place what) old now → (now ≡ old) × LimitVerdict table (replay old).files place what
   limit_answered place VersionNumber old now r = let K = InState (λ d. IsBeyond number place d.files) in (same K old now r, held K old now r)
   limit_answered place FileBytes old now r = (same (InState (λ d. IsLong place d.files)) old now r.run, overlong place old now r)
   limit_answered place Codec old now r = absurd r
@@ -143,20 +143,20 @@ module _ (table : Parts) (allows : Past → Step → Type 0) (nobody : IsNobody 
       draws d = record { id = d.id; drawn = d.drawn; place = d.draft_is; next = d.writes.next; is = d.writes.is; length_is = subst (λ (b : List ℕ). length b ≤ file_limit) d.writes.written d.short }
 
       -- the first step of a publish met a free name
-      free : (draft : Parts) (bytes : List ℕ) (rest : List Step) (K : Past → Type 0) → Ran (metadata_rules table allows) (Exactly (draft_plan draft bytes ++ rest)) K mid new → is_named (replay old).files draft ≡ false
+      free : (draft : Parts) (bytes : List ℕ) (rest : List Step) (K : Past → Type 0) → Ran (table_rules table allows) (Exactly (draft_plan draft bytes ++ rest)) K mid new → is_named (replay old).files draft ≡ false
       free draft bytes rest K run =
-          let it = first_created (metadata_rules table allows) nobody mid run.events draft (Append draft bytes ∷ Seal draft ∷ SyncNames ∷ rest) run.proper run.made in
+          let it = first_created (table_rules table allows) nobody mid run.events draft (Append draft bytes ∷ Seal draft ∷ SyncNames ∷ rest) run.proper run.made in
           subst (λ (p : Past). is_named (replay p).files draft ≡ false) same_mid it
 
       -- the target of a publish can't be taken
-      lost : (d : Drafted Drawn meanings.successor table now_ms at) → Ran (metadata_rules table allows) (Exactly (lost_plan d.route.draft d.bytes)) (InState (IsLost d.route.target)) mid new → ⊥
+      lost : (d : Drafted Drawn meanings.successor table now_ms at) → Ran (table_rules table allows) (Exactly (lost_plan d.route.draft d.bytes)) (InState (IsLost d.route.target)) mid new → ⊥
       lost d run =
           let file = opened_file at.place at.text old mid opened.opened in
           let next : number d.route.target ≡ number at.place + 1 = subst (λ (p : Parts). number d.route.target ≡ number p + 1) d.base_is d.aim.next in
           let above : version number (replay mid).files < number d.route.target = subst (λ (p : Past). version number (replay p).files < number d.route.target) (sym same_mid) (omega (arith, file.is_last, next)) in
           let pos : 0 < number d.route.target = omega (arith, next) in
           let free_at_first : is_named (replay mid).files d.route.target ≡ false = not_named (is_named (replay mid).files d.route.target) refl (no_place number (replay mid).files d.route.target above) in
-          let plain = still_free (metadata_rules table allows) nobody d.route.target pos mid run.events run.proper (subst (λ (l : List Step). PlainSteps l) (sym run.made) (tt, (tt, (tt, (tt, (tt, (tt, tt))))))) free_at_first in
+          let plain = still_free (table_rules table allows) nobody d.route.target pos mid run.events run.proper (subst (λ (l : List Step). PlainSteps l) (sym run.made) (tt, (tt, (tt, (tt, (tt, (tt, tt))))))) free_at_first in
           let there : is_named (replay new).files d.route.target ≡ false = subst (λ (p : Past). is_named (replay p).files d.route.target ≡ false) (sym run.is) plain in
           absurd (cc (there, run.stage.taken))
         where

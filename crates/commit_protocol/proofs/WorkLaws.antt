@@ -30,8 +30,8 @@ use Rattle.commit_publish.specs.declared.steps.Route.{Route}
 use Rattle.commit_publish.specs.declared.publish.PublishErr.{PublishErr}
 use Rattle.commit_publish.specs.declared.publish.PublishErr.TheVariants as publishes
 use Rattle.commit_versions.specs.Opening.{OpenMarks}
-use Rattle.commit_protocol.specs.Ends.{Publish, IsPublished, IsBeaten, IsStopped, IsFailed, TookBy, Works, IsThat, PublishedWorks, draft_of, target_of, number_of}
-use Rattle.commit_protocol.specs.Kinds.{End, end_of, kind_of, error_kind, commit_kind}
+use Rattle.commit_protocol.specs.Ends.{Publish, IsPublished, IsBeaten, IsStopped, IsFailed, TookBy, Works, IsThat, PublishedWorks, draft_of, new_place, new_version}
+use Rattle.commit_protocol.specs.Kinds.{End, commit_end, kind_of, error_kind, commit_kind}
 use Rattle.commit_protocol.specs.Written.{IsOn, IsWritten, commit_error_by, next_tree, stop_error, version_at}
 use Rattle.commit_protocol.specs.declared.committing.Base.{Base}
 use Rattle.commit_protocol.specs.declared.committing.Written.{Written}
@@ -148,12 +148,12 @@ module _ (successor : Data → Data → Type 0) (Drawn : ℕ → Type 0) (table 
       }
 
   -- A publish.
-  module _ (p : P) (version : ℕ) (is : version ≡ number_of successor Drawn table now IsBase p) (Fails : StoreCall → Type 0) (steps : List Step) where
+  module _ (p : P) (version : ℕ) (is : version ≡ new_version successor Drawn table now IsBase p) (Fails : StoreCall → Type 0) (steps : List Step) where
     abbrev pub at_draft : Parts
     at_draft = draft_of successor Drawn table now IsBase p
 
     abbrev pub at_target : Parts
-    at_target = target_of successor Drawn table now IsBase p
+    at_target = new_place successor Drawn table now IsBase p
 
     abbrev pub Made : Result (Unit {0}) PublishErr → Type 0
     Made r = MadeBy at_draft at_target p.bytes r steps
@@ -181,7 +181,7 @@ module _ (successor : Data → Data → Type 0) (Drawn : ℕ → Type 0) (table 
     took_failed publishes.Contended made fails = (refl, record { publish = p; version_is = is; steps_are = made }, refl)
     took_failed (publishes.Stopped e) made fails = took_stopped e.call e.cause made fails
 
-  module _ (p : P) (version : ℕ) (is : version ≡ number_of successor Drawn table now IsBase p) (mark : Option Failure) (had has : List Parts) (old new : Past) where
+  module _ (p : P) (version : ℕ) (is : version ≡ new_version successor Drawn table now IsBase p) (mark : Option Failure) (had has : List Parts) (old new : Past) where
     abbrev pub Moved : Parts → Parts → Result (Unit {0}) PublishErr → Type 0
     Moved draft target r = Went draft target p.bytes r mark old new
 
@@ -189,20 +189,20 @@ module _ (successor : Data → Data → Type 0) (Drawn : ℕ → Type 0) (table 
     draft_ = draft_of successor Drawn table now IsBase p
 
     abbrev pub target_ : Parts
-    target_ = target_of successor Drawn table now IsBase p
+    target_ = new_place successor Drawn table now IsBase p
 
-    pub works_published : (draft target : Parts) → draft ≡ draft_ → target ≡ target_ → has ≡ had → Moved draft target (Ok tt) → Work (end_of (Ok (Published version))) mark had has old new
+    pub works_published : (draft target : Parts) → draft ≡ draft_ → target ≡ target_ → has ≡ had → Moved draft target (Ok tt) → Work (commit_end (Ok (Published version))) mark had has old new
     works_published draft target draft_is target_is same w =
         let there = subst (λ (d : Parts). Moved d target_ (Ok tt)) draft_is (subst (λ (t : Parts). Moved draft t (Ok tt)) target_is w) in
         record { events = there.events; is = there.is; left = []; noted = same ∙ sym (append-nil had); took = took_published p version is (Failing mark new) (ours there.events) there.made }
 
-    pub works_failed : (draft target : Parts) (e : PublishErr) → draft ≡ draft_ → target ≡ target_ → has ≡ had ++ left_by draft target (Err e) → Moved draft target (Err e) → Work (end_of (Err (commit_error_by e draft table version))) mark had has old new
+    pub works_failed : (draft target : Parts) (e : PublishErr) → draft ≡ draft_ → target ≡ target_ → has ≡ had ++ left_by draft target (Err e) → Moved draft target (Err e) → Work (commit_end (Err (commit_error_by e draft table version))) mark had has old new
     works_failed draft target e draft_is target_is noted w =
         let there = subst (λ (d : Parts). Moved d target_ (Err e)) draft_is (subst (λ (t : Parts). Moved draft t (Err e)) target_is w) in
         let left = subst (λ (d : Parts). has ≡ had ++ left_by d target_ (Err e)) draft_is (subst (λ (t : Parts). has ≡ had ++ left_by draft t (Err e)) target_is noted) in
-        let here : Work (end_of (Err (commit_error_by e draft_ table version))) mark had has old new =
+        let here : Work (commit_end (Err (commit_error_by e draft_ table version))) mark had has old new =
         record { events = there.events; is = there.is; left = left_by draft_ target_ (Err e); noted = left; took = took_failed p version is (Failing mark new) (ours there.events) e there.made there.fails } in
-        subst (λ (d : Parts). Work (end_of (Err (commit_error_by e d table version))) mark had has old new) (sym draft_is) here
+        subst (λ (d : Parts). Work (commit_end (Err (commit_error_by e d table version))) mark had has old new) (sym draft_is) here
 
 -- A new metadata file that was drawn up, whose publish ended.
 module _ (Drawn : ℕ → Type 0) (table : Parts) (now : ℕ) (base : Base) (built : Data) (id : ℕ) (drawn : Drawn id) (w : Written) (is : IsWritten table base built now id w) where

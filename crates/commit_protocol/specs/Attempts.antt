@@ -30,7 +30,7 @@ use Rattle.ice_store.specs.declared.store.StoreErr.{StoreErr}
 use Rattle.ice_store.specs.declared.store.StoreErr.TheVariants as causes
 use Rattle.commit_protocol.specs.Kinds.{is_renaming}
 use Rattle.commit_protocol.specs.Meanings.{Meanings}
-use Rattle.commit_protocol.specs.Metadata.{IsAt, OpenErrLeaves, metadata_rules}
+use Rattle.commit_protocol.specs.Metadata.{IsAt, OpenErrLeaves, table_rules}
 use Rattle.commit_protocol.specs.declared.opening.At.{At}
 use Rattle.commit_protocol.specs.declared.change.Built.{Built}
 use Rattle.commit_protocol.specs.declared.change.Built.TheVariants.{Same as Unchanged, Next}
@@ -101,12 +101,12 @@ stopped_at call cause = Err (publishes.Stopped (record { call = call; cause = ca
 
 module _ (table : Parts) (allows : Past → Step → Type 0) where
   -- no step of ours was taken
-  abbrev pub Idle : Past → Past → Type 0
-  Idle = Ran (metadata_rules table allows) (Exactly []) Anything
+  abbrev pub TakesNoStep : Past → Past → Type 0
+  TakesNoStep = Ran (table_rules table allows) (Exactly []) Anything
 
   -- the publish of a file that was drawn up ended so
   abbrev pub DraftLeaves : (Drawn : ℕ → Type 0) (successor : Data → Data → Type 0) (now : ℕ) (at : At) → Drafted Drawn successor table now at → Result (Unit {0}) PublishErr → Past → Past → Type 0
-  DraftLeaves Drawn successor now at d = PublishLeaves (metadata_rules table allows) d.route d.bytes
+  DraftLeaves Drawn successor now at d = PublishLeaves (table_rules table allows) d.route d.bytes
 
   -- of a change with these meanings, at a moment, where identifiers were drawn
   module _ (meanings : Meanings) (Drawn : ℕ → Type 0) (now : ℕ) where
@@ -148,15 +148,15 @@ module _ (table : Parts) (allows : Past → Step → Type 0) where
     pub record RefusedBy (at : At) (e : AttemptErr) (old new : Past) : Type 0 where
       pub limit : HasVersionLimit (view at.meta)
       pub refuses_it : meanings.refuses (view at.meta) e
-      pub idle : Idle old new
+      pub idle : TakesNoStep old new
 
     -- the written form of what the change built is too long
     abbrev pub TooLongBy : At → Parts → Past → Past → Type 0
-    TooLongBy at place old new = HasVersionLimit (view at.meta) × IsTooLong Drawn meanings.successor table now at place × Idle old new
+    TooLongBy at place old new = HasVersionLimit (view at.meta) × IsTooLong Drawn meanings.successor table now at place × TakesNoStep old new
 
     -- the base's log limit can't be read
     abbrev pub UnlimitedBy : At → Parts → Past → Past → Type 0
-    UnlimitedBy at place old new = (place ≡ at.place) × (HasVersionLimit (view at.meta) → ⊥) × Idle old new
+    UnlimitedBy at place old new = (place ≡ at.place) × (HasVersionLimit (view at.meta) → ⊥) × TakesNoStep old new
 
     -- what an attempt leaves that a file's fault ended
     abbrev pub ReadErrBy : At → ReadErr → Past → Past → Type 0
@@ -164,7 +164,7 @@ module _ (table : Parts) (allows : Past → Step → Type 0) where
     ReadErrBy at (Damaged place where_) old new = RefusedBy at (attempts.Read (Damaged place where_)) old new ⊎ ((where_ ≡ Path limit_path) × UnlimitedBy at place old new)
     ReadErrBy at (Unsupported place what) old new = RefusedBy at (attempts.Read (Unsupported place what)) old new ⊎ ((what ≡ FileBytes) × TooLongBy at place old new)
     ReadErrBy at (StoreFault place) old new = RefusedBy at (attempts.Read (StoreFault place)) old new ⊎ FaultBy at place old new
-    ReadErrBy at Memory old new = Idle old new ⊎ LackingBy at old new
+    ReadErrBy at Memory old new = TakesNoStep old new ⊎ LackingBy at old new
 
     -- what an attempt leaves that didn't come to its publish or was refused a name
     abbrev pub AttemptErrBy : At → AttemptErr → Past → Past → Type 0
@@ -179,7 +179,7 @@ module _ (table : Parts) (allows : Past → Step → Type 0) where
 
     -- what an attempt on an opened table leaves, by its answer
     abbrev pub AttemptLeaves : At → Result Committed CommitErr → Past → Past → Type 0
-    AttemptLeaves at (Ok (Same version)) old new = (version ≡ at.version) × HasVersionLimit (view at.meta) × meanings.same (view at.meta) × meanings.seen (view at.meta) × Idle old new
+    AttemptLeaves at (Ok (Same version)) old new = (version ≡ at.version) × HasVersionLimit (view at.meta) × meanings.same (view at.meta) × meanings.seen (view at.meta) × TakesNoStep old new
     AttemptLeaves at (Ok (Published version)) old new = (version ≡ at.version + 1) × HasVersionLimit (view at.meta) × meanings.seen (view at.meta) × PublishedBy at (Ok tt) old new
     AttemptLeaves at (Err (Open e)) old new = ⊥
     AttemptLeaves at (Err (Attempt e)) old new = AttemptErrBy at e old new

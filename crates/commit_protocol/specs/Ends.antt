@@ -25,7 +25,7 @@ use Rattle.commit_publish.specs.declared.publish.Log.{Log}
 use Rattle.commit_publish.specs.declared.steps.PublishCall.{PublishCall}
 use Rattle.commit_versions.specs.Opening.{file_limit}
 use Rattle.commit_protocol.specs.Attempts.{Writes}
-use Rattle.commit_protocol.specs.Kinds.{End, end_of, kind_of, is_renaming}
+use Rattle.commit_protocol.specs.Kinds.{End, commit_end, kind_of, is_renaming}
 use Rattle.commit_protocol.specs.Meanings.{Meanings}
 use Rattle.commit_protocol.specs.Metadata.{IsAt}
 use Rattle.commit_protocol.specs.Written.{IsOn, draft_at, version_at}
@@ -62,35 +62,35 @@ module _ (successor : Data → Data → Type 0) (Drawn : ℕ → Type 0) (table 
   draft_of p = draft_at table p.id
 
   -- the version that it publishes
-  abbrev pub number_of : Publish → ℕ
-  number_of p = p.last + 1
+  abbrev pub new_version : Publish → ℕ
+  new_version p = p.last + 1
 
   -- that version's place
-  abbrev pub target_of : Publish → Parts
-  target_of p = version_at table (number_of p)
+  abbrev pub new_place : Publish → Parts
+  new_place p = version_at table (new_version p)
 
   -- it ran to its end
   pub record IsPublished (version : ℕ) (steps : List Step) : Type 0 where
     pub publish : Publish
-    pub version_is : version ≡ number_of publish
-    pub steps_are : steps ≡ publish_plan (draft_of publish) (target_of publish) publish.bytes
+    pub version_is : version ≡ new_version publish
+    pub steps_are : steps ≡ publish_plan (draft_of publish) (new_place publish) publish.bytes
 
   -- its rename met a taken target, and the new file was removed
   pub record IsBeaten (version : ℕ) (steps : List Step) : Type 0 where
     pub publish : Publish
-    pub version_is : version ≡ number_of publish
+    pub version_is : version ≡ new_version publish
     pub steps_are : steps ≡ lost_plan (draft_of publish) publish.bytes
 
   -- it stopped at this call for this cause
   pub record IsStopped (cause : StoreErr) (publish : Publish) (call : PublishCall) (steps : List Step) (left : List Parts) : Type 0 where
-    pub steps_are : StopsAt (draft_of publish) (target_of publish) publish.bytes call cause steps
-    pub left_is : left ≡ left_at (draft_of publish) (target_of publish) call cause
+    pub steps_are : StopsAt (draft_of publish) (new_place publish) publish.bytes call cause steps
+    pub left_is : left ≡ left_at (draft_of publish) (new_place publish) call cause
 
   -- a call of it failed, and is marked; whether it was one of its renaming
   pub record IsFailed (Fails : StoreCall → Type 0) (renaming : Bool) (publish : Publish) (steps : List Step) (left : List Parts) : Type 0 where
     pub call : PublishCall
     pub kind : is_renaming call ≡ renaming
-    pub failed : Fails (Take (step_of (draft_of publish) (target_of publish) publish.bytes call))
+    pub failed : Fails (Take (step_of (draft_of publish) (new_place publish) publish.bytes call))
     pub stopped : IsStopped causes.Failed publish call steps left
 
   -- the steps that work took and the places that it left, by the kind of its end and the versions that it published
@@ -99,7 +99,7 @@ module _ (successor : Data → Data → Type 0) (Drawn : ℕ → Type 0) (table 
   TookBy Fails kinds.Done (v ∷ versions) steps left = (versions ≡ []) × IsPublished v steps × (left ≡ [])
   TookBy Fails kinds.Told versions steps left = (versions ≡ []) × IsNothing steps left
   TookBy Fails (kinds.Fault place) versions steps left = (versions ≡ []) × ((Fails (Look place) × IsNothing steps left) ⊎ ((p : Publish) × IsFailed Fails false p steps left))
-  TookBy Fails (kinds.Unknown version) versions steps left = (versions ≡ []) × ((p : Publish) × (version ≡ number_of p) × IsFailed Fails true p steps left)
+  TookBy Fails (kinds.Unknown version) versions steps left = (versions ≡ []) × ((p : Publish) × (version ≡ new_version p) × IsFailed Fails true p steps left)
   TookBy Fails (kinds.Lost version) versions steps left = (versions ≡ []) × IsBeaten version steps × (left ≡ [])
   TookBy Fails kinds.Memory versions steps left = (versions ≡ []) × (IsNothing steps left ⊎ ((p : Publish) × (call : PublishCall) × IsStopped causes.Memory p call steps left))
 
@@ -138,17 +138,17 @@ abbrev pub IsDraftOrBoth : (ℕ → Type 0) → Parts → ℕ → List Parts →
 IsDraftOrBoth Drawn table version left = IsDraft Drawn table left ⊎ ((id : ℕ) × Drawn id × (left ≡ draft_at table id ∷ version_at table version ∷ []))
 
 -- a log has these behind what it had
-abbrev pub Adds : (List Parts → Type 0) → List Parts → List Parts → Type 0
-Adds Left had has = (left : List Parts) × (has ≡ had ++ left) × Left left
+abbrev pub AddsPlaces : (List Parts → Type 0) → List Parts → List Parts → Type 0
+AddsPlaces Left had has = (left : List Parts) × (has ≡ had ++ left) × Left left
 
 -- the places behind those that the log had, by the kind of end: new ones only after a failed call or want of memory, and the version's place only where it isn't known whether it was published
 abbrev pub LeavesBy : (ℕ → Type 0) → Parts → Kind → List Parts → List Parts → Type 0
 LeavesBy Drawn table kinds.Done had has = has ≡ had
 LeavesBy Drawn table kinds.Told had has = has ≡ had
-LeavesBy Drawn table (kinds.Fault place) had has = (has ≡ had) ⊎ Adds (IsDraft Drawn table) had has
-LeavesBy Drawn table (kinds.Unknown version) had has = Adds (IsDraftOrBoth Drawn table version) had has
+LeavesBy Drawn table (kinds.Fault place) had has = (has ≡ had) ⊎ AddsPlaces (IsDraft Drawn table) had has
+LeavesBy Drawn table (kinds.Unknown version) had has = AddsPlaces (IsDraftOrBoth Drawn table version) had has
 LeavesBy Drawn table (kinds.Lost version) had has = has ≡ had
-LeavesBy Drawn table kinds.Memory had has = (has ≡ had) ⊎ Adds (IsDraft Drawn table) had has
+LeavesBy Drawn table kinds.Memory had has = (has ≡ had) ⊎ AddsPlaces (IsDraft Drawn table) had has
 
 -- a failed call of a publish is told at the table, or at a new metadata file
 abbrev pub IsPublishFault : (ℕ → Type 0) → Parts → Parts → Type 0
@@ -209,11 +209,11 @@ DrawsOn table allows meanings before after old new = (after ≡ before) ⊎ HasS
 -- what a publish of this successor of a base did
 abbrev pub PublishedWorks : Parts → (ℕ → Type 0) → ℕ → Base → Data → Result Committed CommitErr → Option Failure → List Parts → List Parts → Past → Past → Type 0
 PublishedWorks table Drawn now base built result mark had has old new = (at : At) → IsOn base at → HasVersionLimit (view at.meta)
-    → Works (λ tree next. next ≡ built) Drawn table now (IsThat at) (end_of result) mark had has old new
+    → Works (λ tree next. next ≡ built) Drawn table now (IsThat at) (commit_end result) mark had has old new
 
 -- what a commit did, whose base it opened
 abbrev pub CommitWorks : Parts → (Past → Step → Type 0) → Meanings → (ℕ → Type 0) → ℕ → Result Committed CommitErr → Option Failure → List Parts → List Parts → Past → Past → Type 0
-CommitWorks table allows meanings Drawn now result mark had has old new = Works meanings.successor Drawn table now (WasOpened table allows old) (end_of result) mark had has old new
+CommitWorks table allows meanings Drawn now result mark had has old new = Works meanings.successor Drawn table now (WasOpened table allows old) (commit_end result) mark had has old new
 
 -- The same of the histories that a store tells at the entry and the exit, of the identifiers given before and after, and of the logs.
 
@@ -225,7 +225,7 @@ PublishWorked past store store' table given given' now base built result mark lo
 -- what an attempt on this opened table did
 abbrev pub AttemptWorked : {T : Type 0} → (T → Option Past) → T → T → Parts → Meanings → Option (List ℕ) → Option (List ℕ) → ℕ → At → Result Committed CommitErr → Option Failure → Log → Log → Type 0
 AttemptWorked past store store' table meanings given given' now at result mark log log' =
-    Since (past store) (past store') (Works meanings.successor (Gives given given') table now (IsThat at) (end_of result) mark log.left.items log'.left.items)
+    Since (past store) (past store') (Works meanings.successor (Gives given given') table now (IsThat at) (commit_end result) mark log.left.items log'.left.items)
 
 -- what a commit did
 abbrev pub Worked : {T : Type 0} → (T → Option Past) → T → T → Parts → (Past → Step → Type 0) → Meanings → Option (List ℕ) → Option (List ℕ) → ℕ → Result Committed CommitErr → Option Failure → Log → Log → Type 0

@@ -18,10 +18,10 @@ pub record End : Type 0 where
   pub error : Option CommitErr
 
 -- the end of a commit
-abbrev pub end_of : Result Committed CommitErr → End
-end_of (Ok (Same version)) = record { versions = []; error = None }
-end_of (Ok (Published version)) = record { versions = version ∷ []; error = None }
-end_of (Err e) = record { versions = []; error = Some e }
+abbrev pub commit_end : Result Committed CommitErr → End
+commit_end (Ok (Same version)) = record { versions = []; error = None }
+commit_end (Ok (Published version)) = record { versions = version ∷ []; error = None }
+commit_end (Err e) = record { versions = []; error = Some e }
 
 -- the kind of an attempt's error
 abbrev pub attempt_kind : AttemptErr → Kind

@@ -11,8 +11,8 @@ pub record Meanings : Type 1 where
   pub seen : Data → Type 0
 
 -- what makes this successor of each base, and no other
-abbrev pub only : Data → Meanings
-only built = record { successor = λ tree next. next ≡ built; same = λ tree. ⊥; refuses = λ tree e. ⊥; seen = λ tree. Unit {0} }
+abbrev pub only_successor : Data → Meanings
+only_successor built = record { successor = λ tree next. next ≡ built; same = λ tree. ⊥; refuses = λ tree e. ⊥; seen = λ tree. Unit {0} }
 
 -- what a procedure means: its change; what it needs of a base's properties; and what it reports of the base that it worked on
 pub record Procedure : Type 1 where

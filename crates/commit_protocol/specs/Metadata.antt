@@ -104,8 +104,8 @@ abbrev pub metadata_reading : Parts → Reading
 metadata_reading = reading_of metadata_content
 
 -- and others may take these steps
-abbrev pub metadata_rules : Parts → (Past → Step → Type 0) → Rules
-metadata_rules = rules_of metadata_content
+abbrev pub table_rules : Parts → (Past → Step → Type 0) → Rules
+table_rules = rules_of metadata_content
 
 -- that reading looks only at what is reached, since nothing is
 pub metadata_local : (table : Parts) → IsLocal (metadata_reading table)
@@ -115,26 +115,26 @@ module _ (table : Parts) (allows : Past → Step → Type 0) where
   -- the last version's bytes, opened, of which this holds
   pub record HasOpened (base : Parts) (P : List ℕ → Type 0) (old now : Past) : Type 0 where
     pub text : List ℕ
-    pub opened : IsOpened (metadata_rules table allows) base text old now
+    pub opened : IsOpened (table_rules table allows) base text old now
     pub holds : P text
 
   -- a limit on version numbers or on files is passed, or the metadata isn't supported
   abbrev pub TableReadErr : ReadErr → Past → Past → Type 0
-  TableReadErr (Missing place) old now = ReadErrLeaves (metadata_rules table allows) (Missing place) old now
+  TableReadErr (Missing place) old now = ReadErrLeaves (table_rules table allows) (Missing place) old now
   TableReadErr (Damaged place at) old now = HasOpened place (λ text. IsDamaged text at) old now
-  TableReadErr (Unsupported place of) old now = ReadErrLeaves (metadata_rules table allows) (Unsupported place of) old now ⊎ HasOpened place (λ text. IsUnsupported text of) old now
-  TableReadErr (StoreFault place) old now = ReadErrLeaves (metadata_rules table allows) (StoreFault place) old now
-  TableReadErr Memory old now = ReadErrLeaves (metadata_rules table allows) Memory old now
+  TableReadErr (Unsupported place of) old now = ReadErrLeaves (table_rules table allows) (Unsupported place of) old now ⊎ HasOpened place (λ text. IsUnsupported text of) old now
+  TableReadErr (StoreFault place) old now = ReadErrLeaves (table_rules table allows) (StoreFault place) old now
+  TableReadErr Memory old now = ReadErrLeaves (table_rules table allows) Memory old now
 
   -- what opening a table leaves where it isn't opened, by the cause
   abbrev pub OpenErrLeaves : OpenErr → Past → Past → Type 0
-  OpenErrLeaves (NoTable place) old now = OpenLeaves (metadata_rules table allows) table (Err (NoTable place)) old now
+  OpenErrLeaves (NoTable place) old now = OpenLeaves (table_rules table allows) table (Err (NoTable place)) old now
   OpenErrLeaves (LocationDiffers place location) old now = (place ≡ table) × ((base : Parts) × HasOpened base (λ text. IsElsewhere table text location) old now)
   OpenErrLeaves (Read e) old now = TableReadErr e old now
 
   -- a table opened at its last version
   pub record IsAt (at : At) (old now : Past) : Type 0 where
-    pub opened : IsOpened (metadata_rules table allows) at.place at.text old now
+    pub opened : IsOpened (table_rules table allows) at.place at.text old now
     pub numbers : IsBaseNumber (number_in table) at.place at.version
     pub metadata : IsMetadata table at.text (view at.meta)
 

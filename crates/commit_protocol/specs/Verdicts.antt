@@ -22,7 +22,7 @@ use Rattle.commit_versions.specs.Latest.{IsBaseNumber}
 use Rattle.commit_versions.specs.Opening.{FileIs, IsBeyond, file_limit, opening_kind}
 use Rattle.commit_versions.specs.declared.types.OpenErr.{OpenErr}
 use Rattle.commit_versions.specs.declared.types.OpenErr.TheVariants.{NoTable, LocationDiffers, Read}
-use Rattle.commit_protocol.specs.Kinds.{attempt_kind, end_of, kind_of}
+use Rattle.commit_protocol.specs.Kinds.{attempt_kind, commit_end, kind_of}
 use Rattle.commit_protocol.specs.Meanings.{Meanings}
 use Rattle.commit_protocol.specs.Metadata.{IsMetadata, IsElsewhere, IsDamaged, IsUnsupported}
 use Rattle.commit_protocol.specs.Attempts.{IsNextOf, limit_path}
@@ -150,8 +150,8 @@ module _ (Needs : Data → Type 0) (meanings : Meanings) (Drawn : ℕ → Type 0
   Draws = DrawsUp meanings.successor Drawn table now
 
   -- the new file's name is taken, or the base is refused so
-  abbrev pub IsNameTaken : List Held → Parts → Type 0
-  IsNameTaken files place = OnBase Needs table files (λ last tree. meanings.refuses tree (attempts.NameTaken place) ⊎ (Draws IsShort last tree place × (is_named files place ≡ true)))
+  abbrev pub HasTakenName : List Held → Parts → Type 0
+  HasTakenName files place = OnBase Needs table files (λ last tree. meanings.refuses tree (attempts.NameTaken place) ⊎ (Draws IsShort last tree place × (is_named files place ≡ true)))
 
   -- the written form is too long, or the base is refused so
   abbrev pub IsUnsupportedText : List Held → Parts → What → Type 0
@@ -170,7 +170,7 @@ module _ (Needs : Data → Type 0) (meanings : Meanings) (Drawn : ℕ → Type 0
   ErrorVerdict files (Open e) = OpenVerdict table files (Err e)
   ErrorVerdict files (Attempt (attempts.Refused refusal)) = RefusesBase files (attempts.Refused refusal)
   ErrorVerdict files (Attempt (attempts.Conflict place other)) = RefusesBase files (attempts.Conflict place other)
-  ErrorVerdict files (Attempt (attempts.NameTaken place)) = IsNameTaken files place
+  ErrorVerdict files (Attempt (attempts.NameTaken place)) = HasTakenName files place
   ErrorVerdict files (Attempt (attempts.Read (Missing place))) = RefusesBase files (attempts.Read (Missing place))
   ErrorVerdict files (Attempt (attempts.Read (Damaged place at))) = RefusesBase files (attempts.Read (Damaged place at)) ⊎ ((at ≡ Path limit_path) × IsUnfit Needs table files place)
   ErrorVerdict files (Attempt (attempts.Read (Unsupported place what))) = IsUnsupportedText files place what
@@ -208,7 +208,7 @@ IsOpeningTold result = IsOfState (opening_kind result)
 
 -- and a commit's
 abbrev pub IsTold : Result Committed CommitErr → Type 0
-IsTold result = IsOfState (kind_of (end_of result))
+IsTold result = IsOfState (kind_of (commit_end result))
 
 -- what an opened table shows
 pub record Shown : Type 0 where
@@ -218,14 +218,14 @@ pub record Shown : Type 0 where
   pub tree : Data
 
 -- what an answer of an opening shows
-abbrev pub shown : Result At OpenErr → Result Shown OpenErr
-shown (Ok at) = Ok (record { place = at.place; last = at.version; bytes = at.text; tree = view at.meta })
-shown (Err e) = Err e
+abbrev pub opening_shown : Result At OpenErr → Result Shown OpenErr
+opening_shown (Ok at) = Ok (record { place = at.place; last = at.version; bytes = at.text; tree = view at.meta })
+opening_shown (Err e) = Err e
 
 -- two told verdicts of one opening show the same
 abbrev pub IsOneOpening : Parts → Type 0
 IsOneOpening table = (files : List Held) (r s : Result At OpenErr) → IsOpeningTold r → IsOpeningTold s
-    → OpenVerdict table files r → OpenVerdict table files s → shown r ≡ shown s
+    → OpenVerdict table files r → OpenVerdict table files s → opening_shown r ≡ opening_shown s
 
 -- the meanings of a change exclude one another, and each gives one answer; a refusal is an error that is told, whichever it is
 pub record IsDecided (meanings : Meanings) : Type 0 where
@@ -248,7 +248,7 @@ IsOneCommit table now meanings Drawn = (files : List Held) (r s : Result Committ
 
 -- where an answer's cause stands in these files, the opening's answer shows the same, but for want of memory and faults
 abbrev pub IsExactOpening : Parts → Result At OpenErr → List Held → Type 0
-IsExactOpening table result files = (r : Result At OpenErr) → IsOpeningTold r → OpenVerdict table files r → IsOpeningTold result → shown result ≡ shown r
+IsExactOpening table result files = (r : Result At OpenErr) → IsOpeningTold r → OpenVerdict table files r → IsOpeningTold result → opening_shown result ≡ opening_shown r
 
 -- where an answer's cause stands in these files, it is the commit's answer, but for want of memory and faults
 abbrev pub IsExactCommit : Meanings → (ℕ → Type 0) → Parts → ℕ → Result Committed CommitErr → List Held → Type 0

@@ -20,7 +20,7 @@ use Rattle.commit_publish.specs.declared.publish.PublishErr.{PublishErr}
 use Rattle.commit_publish.specs.declared.publish.PublishErr.TheVariants as publishes
 use Rattle.commit_versions.specs.Names.{version_text_of, version_name, draft_name}
 use Rattle.commit_versions.specs.Opening.{file_limit}
-use Rattle.commit_protocol.specs.Meanings.{only}
+use Rattle.commit_protocol.specs.Meanings.{only_successor}
 use Rattle.commit_protocol.specs.Metadata.{IsMetadata}
 use Rattle.commit_protocol.specs.Attempts.{AttemptLeaves}
 use Rattle.commit_protocol.specs.declared.opening.At.{At}
@@ -98,4 +98,4 @@ commit_error_by (publishes.Stopped e) draft table version = stop_error e.call e.
 
 -- what an attempt leaves whose change made this successor of the base, and no other
 abbrev pub PublishedLeaves : Parts → (Past → Step → Type 0) → (ℕ → Type 0) → ℕ → Base → Data → Result Committed CommitErr → Past → Past → Type 0
-PublishedLeaves table allows Drawn now base built result old new = (at : At) → IsOn base at → HasVersionLimit (view at.meta) → AttemptLeaves table allows (only built) Drawn now at result old new
+PublishedLeaves table allows Drawn now base built result old new = (at : At) → IsOn base at → HasVersionLimit (view at.meta) → AttemptLeaves table allows (only_successor built) Drawn now at result old new

@@ -12,7 +12,7 @@ ghost use Rattle.commit_publish.specs.Steps.{Exactly};
 ghost use Rattle.commit_publish.specs.Kinds.{Counts};
 ghost use Rattle.commit_versions.specs.Opening.{OpenStage, OpenMarks};
 ghost use Rattle.commit_protocol.specs.Meanings.{Meanings};
-ghost use Rattle.commit_protocol.specs.Metadata.{HasMetadataAt, metadata_rules};
+ghost use Rattle.commit_protocol.specs.Metadata.{HasMetadataAt, table_rules};
 ghost use Rattle.metadata_view.specs.View.{location_of};
 ghost use Rattle.ice_store.specs.Places.{place_in};
 ghost use Rattle.commit_protocol.specs.Attempts.{MakesOf};
@@ -54,12 +54,12 @@ pub trait Change<M: Manners> {
         now: u64,
         log: &mut Log,
     ) -> Result<Built, AttemptErr>
-        requires mannered { IsMannered (metadata_rules table.now (M.allows (S.manners store.old))) }
+        requires mannered { IsMannered (table_rules table.now (M.allows (S.manners store.old))) }
         requires start { WhereTold (S.past store.old) (InState (OpenStage (number_in table.now) base.now)) }
         requires moment { now < 2 ^ 63 }
         requires here { place_in (location_of (view meta)) ≡ Ok table.now }
         requires opened { WhereTold (S.past store.old) (InState (HasMetadataAt table.now base.now (view meta))) }
-        ensures told { Since (S.past store.old) (S.past store.new) (Ran (metadata_rules table.now (M.allows (S.manners store.old))) (Exactly []) (InState (OpenStage (number_in table.now) base.now))) }
+        ensures told { Since (S.past store.old) (S.past store.new) (Ran (table_rules table.now (M.allows (S.manners store.old))) (Exactly []) (InState (OpenStage (number_in table.now) base.now))) }
         ensures built { IfOk result (MakesOf (meanings self.old self.new) (view meta)) }
         ensures seen { OnOk result ((meanings self.old self.new).seen (view meta)) }
         ensures refused { IfErr result ((meanings self.old self.new).refuses (view meta)) }

@@ -16,9 +16,9 @@ ghost use Rattle.commit_versions.specs.Opening.{OpenStage, OpenFaultAt, FileIs};
 ghost use Rattle.commit_versions.specs.declared.types.OpenErr.{OpenErr as TheOpenErr};
 ghost use Rattle.commit_protocol.specs.Attempts.{TellsLimit, AttemptLeaves, CommitLeaves};
 ghost use Rattle.commit_protocol.specs.Ends.{AttemptWorked, DrawsBy, DrawsFor, DrawsOn, IsRefusedBy, LeavesBy, PublishWorked, TellsFault, Worked};
-ghost use Rattle.commit_protocol.specs.Kinds.{end_of, kind_of};
-ghost use Rattle.commit_protocol.specs.Meanings.{only};
-ghost use Rattle.commit_protocol.specs.Metadata.{IsMetadata, metadata_rules};
+ghost use Rattle.commit_protocol.specs.Kinds.{commit_end, kind_of};
+ghost use Rattle.commit_protocol.specs.Meanings.{only_successor};
+ghost use Rattle.commit_protocol.specs.Metadata.{IsMetadata, table_rules};
 ghost use Rattle.commit_protocol.specs.Promises.{StopsHavePrefix, StopsHaveFiles, Succeeds};
 ghost use Rattle.commit_protocol.specs.Verdicts.{IsNobody, IsCaused, IsExactly};
 ghost use Rattle.commit_protocol.specs.Written.{IsOn, IsWritten, IsUnwritten, PublishedLeaves, commit_error_by, stop_error, version_at};
@@ -163,7 +163,7 @@ fn publish_built<M: Manners, S: Store<M>, I: Ids>(
     meta: Meta,
     log: &mut Log,
 ) -> Result<Committed, CommitErr>
-    requires mannered { IsMannered (metadata_rules table.now (M.allows (S.manners store.old))) }
+    requires mannered { IsMannered (table_rules table.now (M.allows (S.manners store.old))) }
     requires numbers { IsBaseNumber (number_in table.now) base.place base.version }
     requires utf8 { IsUtf8 base.previous }
     requires here { place_in (location_of (view meta)) ≡ Ok table.now }
@@ -172,15 +172,15 @@ fn publish_built<M: Manners, S: Store<M>, I: Ids>(
     requires start { WhereTold (S.past store.old) (InState (OpenStage (number_in table.now) base.place)) }
     ensures told { Since (S.past store.old) (S.past store.new) (PublishedLeaves table.now (M.allows (S.manners store.old)) (Gives (I.given ids.old) (I.given ids.new)) now base (view meta) result) }
     ensures manners { S.manners store.new ≡ S.manners store.old }
-    ensures cause { Counts (kind_of (end_of result)) (S.faults store.old) (S.faults store.new) }
+    ensures cause { Counts (kind_of (commit_end result)) (S.faults store.old) (S.faults store.new) }
     ensures later { S.faults store.old ≤ S.faults store.new }
-    ensures halted { Marks table.now (kind_of (end_of result)) (S.halted store.old) (S.halted store.new) (S.past store.new) }
-    ensures committed { log.new.committed.items ≡ log.old.committed.items ++ (end_of result).versions }
-    ensures left { LeavesBy (Gives (I.given ids.old) (I.given ids.new)) table.now (kind_of (end_of result)) log.old.left.items log.new.left.items }
+    ensures halted { Marks table.now (kind_of (commit_end result)) (S.halted store.old) (S.halted store.new) (S.past store.new) }
+    ensures committed { log.new.committed.items ≡ log.old.committed.items ++ (commit_end result).versions }
+    ensures left { LeavesBy (Gives (I.given ids.old) (I.given ids.new)) table.now (kind_of (commit_end result)) log.old.left.items log.new.left.items }
     ensures works { PublishWorked S.past store.old store.new table.now (I.given ids.old) (I.given ids.new) now base (view meta) result (S.halted store.new) log.old log.new }
-    ensures drawn { DrawsBy (end_of result).versions (end_of result).error (I.given ids.old) (I.given ids.new) }
-    ensures refused { IsRefusedBy (only (view meta)) result }
-    ensures fault_place { TellsFault (only (view meta)) (Gives (I.given ids.old) (I.given ids.new)) table.now result }
+    ensures drawn { DrawsBy (commit_end result).versions (commit_end result).error (I.given ids.old) (I.given ids.new) }
+    ensures refused { IsRefusedBy (only_successor (view meta)) result }
+    ensures fault_place { TellsFault (only_successor (view meta)) (Gives (I.given ids.old) (I.given ids.new)) table.now result }
     ensures unopened { (e : TheOpenErr) → result ≡ Err (CommitErr.Open e) → ⊥ }
 {
     let id = ids.next();
@@ -224,7 +224,7 @@ fn attempt_on<M: Manners, S: Store<M>, I: Ids, X: Change<M>>(
     change: &mut X,
     log: &mut Log,
 ) -> Result<Committed, CommitErr>
-    requires mannered { IsMannered (metadata_rules table.now (M.allows (S.manners store.old))) }
+    requires mannered { IsMannered (table_rules table.now (M.allows (S.manners store.old))) }
     requires numbers { IsBaseNumber (number_in table.now) at.place at.version }
     requires metadata { IsMetadata table.now at.text (view at.meta) }
     requires moment { now < 2 ^ 63 }
@@ -232,13 +232,13 @@ fn attempt_on<M: Manners, S: Store<M>, I: Ids, X: Change<M>>(
     requires read { WhereTold (S.past store.old) (InState (λ d. FileIs at.place at.text d.files)) }
     ensures told { Since (S.past store.old) (S.past store.new) (AttemptLeaves table.now (M.allows (S.manners store.old)) (X.meanings change.old change.new) (Gives (I.given ids.old) (I.given ids.new)) now at result) }
     ensures manners { S.manners store.new ≡ S.manners store.old }
-    ensures cause { Counts (kind_of (end_of result)) (S.faults store.old) (S.faults store.new) }
+    ensures cause { Counts (kind_of (commit_end result)) (S.faults store.old) (S.faults store.new) }
     ensures later { S.faults store.old ≤ S.faults store.new }
-    ensures halted { Marks table.now (kind_of (end_of result)) (S.halted store.old) (S.halted store.new) (S.past store.new) }
-    ensures committed { log.new.committed.items ≡ log.old.committed.items ++ (end_of result).versions }
-    ensures left { LeavesBy (Gives (I.given ids.old) (I.given ids.new)) table.now (kind_of (end_of result)) log.old.left.items log.new.left.items }
+    ensures halted { Marks table.now (kind_of (commit_end result)) (S.halted store.old) (S.halted store.new) (S.past store.new) }
+    ensures committed { log.new.committed.items ≡ log.old.committed.items ++ (commit_end result).versions }
+    ensures left { LeavesBy (Gives (I.given ids.old) (I.given ids.new)) table.now (kind_of (commit_end result)) log.old.left.items log.new.left.items }
     ensures works { AttemptWorked S.past store.old store.new table.now (X.meanings change.old change.new) (I.given ids.old) (I.given ids.new) now at result (S.halted store.new) log.old log.new }
-    ensures drawn { DrawsBy (end_of result).versions (end_of result).error (I.given ids.old) (I.given ids.new) }
+    ensures drawn { DrawsBy (commit_end result).versions (commit_end result).error (I.given ids.old) (I.given ids.new) }
     ensures drawn_for { DrawsFor (X.meanings change.old change.new) (view at.meta) (I.given ids.old) (I.given ids.new) }
     ensures refused { IsRefusedBy (X.meanings change.old change.new) result }
     ensures fault_place { TellsFault (X.meanings change.old change.new) (Gives (I.given ids.old) (I.given ids.new)) table.now result }
@@ -281,18 +281,18 @@ pub fn commit<M: Manners, S: Store<M>, I: Ids, X: Change<M>>(
     change: &mut X,
     log: &mut Log,
 ) -> Result<Committed, CommitErr>
-    requires mannered { IsMannered (metadata_rules table.now (M.allows (S.manners store.old))) }
+    requires mannered { IsMannered (table_rules table.now (M.allows (S.manners store.old))) }
     requires moment { now < 2 ^ 63 }
     requires start { WhereTold (S.past store.old) (InState (λ d. Creating d.pending)) }
     ensures told { Since (S.past store.old) (S.past store.new) (CommitLeaves table.now (M.allows (S.manners store.old)) (X.meanings change.old change.new) (Gives (I.given ids.old) (I.given ids.new)) now result) }
     ensures manners { S.manners store.new ≡ S.manners store.old }
-    ensures cause { Counts (kind_of (end_of result)) (S.faults store.old) (S.faults store.new) }
+    ensures cause { Counts (kind_of (commit_end result)) (S.faults store.old) (S.faults store.new) }
     ensures later { S.faults store.old ≤ S.faults store.new }
-    ensures halted { Marks table.now (kind_of (end_of result)) (S.halted store.old) (S.halted store.new) (S.past store.new) }
-    ensures committed { log.new.committed.items ≡ log.old.committed.items ++ (end_of result).versions }
-    ensures left { LeavesBy (Gives (I.given ids.old) (I.given ids.new)) table.now (kind_of (end_of result)) log.old.left.items log.new.left.items }
+    ensures halted { Marks table.now (kind_of (commit_end result)) (S.halted store.old) (S.halted store.new) (S.past store.new) }
+    ensures committed { log.new.committed.items ≡ log.old.committed.items ++ (commit_end result).versions }
+    ensures left { LeavesBy (Gives (I.given ids.old) (I.given ids.new)) table.now (kind_of (commit_end result)) log.old.left.items log.new.left.items }
     ensures works { Worked S.past store.old store.new table.now (M.allows (S.manners store.old)) (X.meanings change.old change.new) (I.given ids.old) (I.given ids.new) now result (S.halted store.new) log.old log.new }
-    ensures drawn { DrawsBy (end_of result).versions (end_of result).error (I.given ids.old) (I.given ids.new) }
+    ensures drawn { DrawsBy (commit_end result).versions (commit_end result).error (I.given ids.old) (I.given ids.new) }
     ensures drawn_for { Since (S.past store.old) (S.past store.new) (DrawsOn table.now (M.allows (S.manners store.old)) (X.meanings change.old change.new) (I.given ids.old) (I.given ids.new)) }
     ensures refused { IsRefusedBy (X.meanings change.old change.new) result }
     ensures fault_place { TellsFault (X.meanings change.old change.new) (Gives (I.given ids.old) (I.given ids.new)) table.now result }

@@ -1,7 +1,7 @@
 //! How a change is committed to a table: the last version is opened, the change is asked, and what it built is published
 //! as the next version. Other writers may act between any two store calls, as their manners allow.
 //!
-//! A table is read here by its metadata alone (`metadata_rules`, in `specs/Metadata.antt`): a version file is good where its
+//! A table is read here by its metadata alone (`table_rules`, in `specs/Metadata.antt`): a version file is good where its
 //! bytes are metadata of the table, and it reaches nothing. The crates below stand over any reading of a table.
 //!
 //! - `opening`: `open_table`; what it tells is defined in `specs/Metadata.antt`.

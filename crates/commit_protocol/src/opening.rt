@@ -10,7 +10,7 @@ ghost use Rattle.commit_publish.specs.Stages.{Creating, InState};
 ghost use Rattle.commit_publish.specs.Kinds.{Counts};
 ghost use Rattle.commit_versions.specs.Latest.{IsBaseNumber};
 ghost use Rattle.commit_versions.specs.Opening.{OpenFaultAt, OpenMarks, opening_kind};
-ghost use Rattle.commit_protocol.specs.Metadata.{IsMetadata, ReadsTable, SaysElsewhere, TableLeaves, unsupported, metadata_content, metadata_local, metadata_rules};
+ghost use Rattle.commit_protocol.specs.Metadata.{IsMetadata, ReadsTable, SaysElsewhere, TableLeaves, unsupported, metadata_content, metadata_local, table_rules};
 ghost use Rattle.commit_protocol.specs.Verdicts.{IsNobody, OpenVerdict, IsExactOpening};
 ghost use Rattle.ice_store.specs.History.{replay};
 
@@ -122,7 +122,7 @@ pub fn open_table<M: Manners, S: Store<M>>(
     store: &mut S,
     table: &Place,
 ) -> Result<At, OpenErr>
-    requires mannered { IsMannered (metadata_rules table.now (M.allows (S.manners store.old))) }
+    requires mannered { IsMannered (table_rules table.now (M.allows (S.manners store.old))) }
     requires start { WhereTold (S.past store.old) (InState (λ d. Creating d.pending)) }
     ensures told { Since (S.past store.old) (S.past store.new) (TableLeaves table.now (M.allows (S.manners store.old)) result) }
     ensures numbers { IfOk result (λ at. IsBaseNumber (number_in table.now) at.place at.version) }

@@ -14,10 +14,10 @@ use Rattle.commit_protocol.specs.declared.errors.Refusal.{Refusal}
 use Rattle.commit_protocol.specs.declared.errors.Refusal.TheVariants.{NotAncestor}
 use Rattle.run_refs.specs.declared.goal.Goal.{Goal}
 use Rattle.run_refs.specs.declared.goal.Goal.TheVariants.{Rollback, SetCurrent, SetCurrentTo, FastForward}
-use Rattle.run_refs.specs.Moves.{Aim, AnswersBy, AimsIfAncestor, AimsBack, AimsAt, AimsTo, AimsForward, Aims, Moves, IsThere}
+use Rattle.run_refs.specs.Moves.{Aim, AimBy, AimsIfAncestor, AimsBack, AimsAt, AimsTo, AimsForward, Aims, Moves, IsThere}
 use Rattle.run_refs.specs.Refs.{goal_ref, ref_at, branch_at}
 
-one_answer : (P : Type 0) (if_so if_not x y : Aim) → AnswersBy P if_so if_not x → AnswersBy P if_so if_not y → x ≡ y
+one_answer : (P : Type 0) (if_so if_not x y : Aim) → AimBy P if_so if_not x → AimBy P if_so if_not y → x ≡ y
 one_answer P if_so if_not x y (inl a) (inl b) = a.0 ∙ sym b.0
 one_answer P if_so if_not x y (inl a) (inr b) = absurd (b.1 a.1)
 one_answer P if_so if_not x y (inr a) (inl b) = absurd (a.1 b.1)

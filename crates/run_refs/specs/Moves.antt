@@ -19,12 +19,12 @@ abbrev pub Aim : Type 0
 Aim = Result ℤ Refusal
 
 -- the first answer where the fact holds, the second where it doesn't
-abbrev pub AnswersBy : Type 0 → Aim → Aim → Aim → Type 0
-AnswersBy P if_so if_not x = ((x ≡ if_so) × P) ⊎ ((x ≡ if_not) × (P → ⊥))
+abbrev pub AimBy : Type 0 → Aim → Aim → Aim → Type 0
+AimBy P if_so if_not x = ((x ≡ if_so) × P) ⊎ ((x ≡ if_not) × (P → ⊥))
 
 -- to `aim`, if the snapshot `id` is an ancestor of the snapshot `of`, or is it
 abbrev pub AimsIfAncestor : List Snapshot → ℤ → ℤ → ℤ → Aim → Type 0
-AimsIfAncestor snapshots id of aim = AnswersBy (IsAncestor snapshots id of) (Ok aim) (Err (NotAncestor id (Some of)))
+AimsIfAncestor snapshots id of aim = AimBy (IsAncestor snapshots id of) (Ok aim) (Err (NotAncestor id (Some of)))
 
 -- back to an ancestor of the current snapshot
 abbrev pub AimsBack : List Snapshot → ℤ → Option Snapshot → Option ℤ → Aim → Type 0

@@ -4,8 +4,8 @@ use Rattle.upkeep.specs.declared.Unstarted.{Unstarted}
 use Rattle.upkeep.specs.declared.Unstarted.TheVariants.{Output, Memory, NotText, Random}
 
 -- the exit status where nothing was run
-abbrev pub number_of : Unstarted → ℕ
-number_of Output = 7
-number_of Memory = 8
-number_of NotText = 10
-number_of Random = 11
+abbrev pub unstarted_number : Unstarted → ℕ
+unstarted_number Output = 7
+unstarted_number Memory = 8
+unstarted_number NotText = 10
+unstarted_number Random = 11

@@ -5,7 +5,7 @@
 #![tactic(auto)]
 
 ghost use Rattle.std.specs.Prelude.{◌≡◌};
-ghost use Rattle.upkeep.specs.Numbers.{number_of};
+ghost use Rattle.upkeep.specs.Numbers.{unstarted_number};
 
 use ice_store::{Alone, Sink, Text};
 use std::env;
@@ -37,7 +37,7 @@ enum Unstarted {
 impl Unstarted {
     // the exit status of the program
     fn number(self) -> u8
-        ensures { result ≡ number_of self }
+        ensures { result ≡ unstarted_number self }
     {
         match self {
             Unstarted::Output => 7,

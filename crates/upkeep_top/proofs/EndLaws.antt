@@ -16,9 +16,9 @@ use Rattle.commit_publish.specs.Steps.{Anything}
 use Rattle.commit_versions.specs.declared.types.OpenErr.TheVariants as opens
 use Rattle.commit_protocol.specs.Attempts.{CommitLeaves}
 use Rattle.commit_protocol.specs.Ends.{CommitWorks, IsPublishFault, TellsFault, WasOpened, Works}
-use Rattle.commit_protocol.specs.Kinds.{commit_kind, end_of, kind_of}
+use Rattle.commit_protocol.specs.Kinds.{commit_kind, commit_end, kind_of}
 use Rattle.commit_protocol.specs.Meanings.{Meanings}
-use Rattle.commit_protocol.specs.Metadata.{metadata_reading, metadata_rules}
+use Rattle.commit_protocol.specs.Metadata.{metadata_reading, table_rules}
 use Rattle.commit_protocol.specs.Promises.{Succeeds}
 use Rattle.commit_protocol.specs.Verdicts.{IsNobody, IsTable, CommitVerdict, EndVerdict, ErrorVerdict, IsCaused}
 use Rattle.commit_protocol.specs.declared.errors.AttemptErr.TheVariants as attempts
@@ -38,7 +38,7 @@ use Rattle.run_refs.specs.Procedures.{Unasked, move_procedure}
 use Rattle.run_refs.specs.Reports.{move_report}
 use Rattle.run_refs.specs.declared.goal.Goal.{Goal}
 use Rattle.upkeep_top.specs.Promises.{AllSucceed}
-use Rattle.upkeep_top.specs.Statements.{AnswersBy, IsEnd, Nobody, Did, Reports, ReportsOn, ReportedBy, RestsBy}
+use Rattle.upkeep_top.specs.Statements.{StatusBy, IsEndOfWork, Nobody, Did, Reports, ReportsOn, ReportedBy, RestsBy}
 use Rattle.upkeep_top.specs.Verdicts.{OnTable}
 use Rattle.upkeep_top.specs.declared.task.Task.{Task}
 use Rattle.upkeep_top.specs.declared.task.Work.TheVariants.{Move}
@@ -87,7 +87,7 @@ module _ (table : Parts) (meanings : Meanings) (Drawn : ℕ → Type 0) (now : �
   error_caused files (CommitUnknown v) c = c
 
   -- the cause of an answer is that of its end
-  pub end_caused : (files : List Held) (r : Result Committed CommitErr) → CommitVerdict HasVersionLimit meanings Drawn table now files r → EndVerdict HasVersionLimit unasked Drawn table now files (end_of r).versions (end_of r).error
+  pub end_caused : (files : List Held) (r : Result Committed CommitErr) → CommitVerdict HasVersionLimit meanings Drawn table now files r → EndVerdict HasVersionLimit unasked Drawn table now files (commit_end r).versions (commit_end r).error
   end_caused files (Ok (Same v)) c = record { place = c.place; last = c.last; bytes = c.bytes; tree = c.tree; is = c.is; has = c.has; holds = c.holds.1 }
   end_caused files (Ok (Published v)) c = (refl, c)
   end_caused files (Err e) c = (refl, error_caused files e c)
@@ -103,9 +103,9 @@ module _ (table : Parts) (meanings : Meanings) (Drawn : ℕ → Type 0) (now : �
       (subst (λ (d : Data). IsTable table files o.at.place o.at.version o.at.text d) (sym o.that.tree_is) is)))
 
   pub end_works : (r : Result Committed CommitErr) (mark : Option Failure) (had has : List Parts) (old new : Past) → CommitWorks table Nobody meanings Drawn now r mark had has old new
-      → Works unasked.successor Drawn table now (IsTable table (replay old).files) (end_of r) mark had has old new
+      → Works unasked.successor Drawn table now (IsTable table (replay old).files) (commit_end r) mark had has old new
   end_works r mark had has old new w =
-      works_turned meanings.successor meanings.successor Drawn table now (WasOpened table Nobody old) (IsTable table (replay old).files) (opened_table old) (λ place last text tree built base m. m) (end_of r) mark had has old new w
+      works_turned meanings.successor meanings.successor Drawn table now (WasOpened table Nobody old) (IsTable table (replay old).files) (opened_table old) (λ place last text tree built base m. m) (commit_end r) mark had has old new w
 
   -- after the work is done nothing is pending
   error_rests : (e : CommitErr) (past : Past) → RestsBy (commit_kind e) past
@@ -127,10 +127,10 @@ module _ (table : Parts) (meanings : Meanings) (Drawn : ℕ → Type 0) (now : �
   error_rests (Contended v) past = tt
   error_rests (CommitUnknown v) past = tt
 
-  pub end_rests : (r : Result Committed CommitErr) (old new : Past) → (replay old).pending ≡ [] → Leaves r old new → RestsBy (kind_of (end_of r)) new
+  pub end_rests : (r : Result Committed CommitErr) (old new : Past) → (replay old).pending ≡ [] → Leaves r old new → RestsBy (kind_of (commit_end r)) new
   end_rests (Ok (Same v)) old new start a =
       let opened : a.mid ≡ old = (opening_answered table Nobody nobody (Ok a.at) old a.mid a.opened).0 in
-      let still : new ≡ a.mid = unmoved (metadata_rules table Nobody) nobody Anything a.mid new a.then.4 in
+      let still : new ≡ a.mid = unmoved (table_rules table Nobody) nobody Anything a.mid new a.then.4 in
       subst (λ (p : Past). (replay p).pending ≡ []) (sym (still ∙ opened)) start
   end_rests (Ok (Published v)) old new start a =
       let run = a.then.3.left in
@@ -138,7 +138,7 @@ module _ (table : Parts) (meanings : Meanings) (Drawn : ℕ → Type 0) (now : �
   end_rests (Err e) old new start a = error_rests e new
 
   -- published versions are successors
-  pub end_succeeds : (r : Result Committed CommitErr) (old new : Past) → Succeeds meanings.successor table now r old new → AllSucceed unasked.successor table now (end_of r).versions old new
+  pub end_succeeds : (r : Result Committed CommitErr) (old new : Past) → Succeeds meanings.successor table now r old new → AllSucceed unasked.successor table now (commit_end r).versions old new
   end_succeeds (Ok (Same v)) old new s = tt
   end_succeeds (Ok (Published v)) old new s = (s, tt)
   end_succeeds (Err e) old new s = tt
@@ -150,17 +150,17 @@ module _ (table : Parts) (meanings : Meanings) (Drawn : ℕ → Type 0) (now : �
 
 -- What is told of an answer's error.
 
-pub answers_done : (word : ℕ) (c : Committed) (status : Status) → IsEnd status → AnswersBy word (end_of (Ok c)).error status
+pub answers_done : (word : ℕ) (c : Committed) (status : Status) → IsEndOfWork status → StatusBy word (commit_end (Ok c)).error status
 answers_done word (Same v) status e = e
 answers_done word (Published v) status e = e
 
-pub error_of : (r : Result Committed CommitErr) (e : CommitErr) → (end_of r).error ≡ Some e → r ≡ Err e
+pub error_of : (r : Result Committed CommitErr) (e : CommitErr) → (commit_end r).error ≡ Some e → r ≡ Err e
 error_of (Ok (Same v)) e is = absurd (cc (is))
 error_of (Ok (Published v)) e is = absurd (cc (is))
 error_of (Err x) e is = let same : x ≡ e = cc (is) in ap (λ (y : CommitErr). Err y) same
 
 -- an error tells no versions
-pub tells_none : (r : Result Committed CommitErr) (e : CommitErr) → (end_of r).error ≡ Some e → (end_of r).versions ≡ []
+pub tells_none : (r : Result Committed CommitErr) (e : CommitErr) → (commit_end r).error ≡ Some e → (commit_end r).versions ≡ []
 tells_none (Ok (Same v)) e is = absurd (cc (is))
 tells_none (Ok (Published v)) e is = absurd (cc (is))
 tells_none (Err x) e is = refl
@@ -169,7 +169,7 @@ tells_none (Err x) e is = refl
 
 -- a move refuses no base with a failed call, so that of an attempt is one of its publish
 pub move_fault : (goal : Goal) (now : ℕ) (Seen : Data → Type 0) (Drawn : ℕ → Type 0) (table : Parts) (r : Result Committed CommitErr) → TellsFault (moves_of goal now Seen) Drawn table r
-    → (place : Parts) → (end_of r).error ≡ Some (Attempt (attempts.Read (StoreFault place))) → IsPublishFault Drawn table place
+    → (place : Parts) → (commit_end r).error ≡ Some (Attempt (attempts.Read (StoreFault place))) → IsPublishFault Drawn table place
 move_fault goal now Seen Drawn table r tells place is =
     let told = error_of r (Attempt (attempts.Read (StoreFault place))) is in
     elim (tells place told) [ inl refused ↦ absurd refused.1 | inr at ↦ at ]
@@ -194,12 +194,12 @@ module _ (word : ℕ) (table : Parts) (goal : Goal) (now : ℕ) (Drawn : ℕ →
     abbrev pub Succeeded : Past → Past → Type 0
     Succeeded = Succeeds meanings.successor table now r
 
-    pub did_move : WhereTold o (λ past. (replay past).pending ≡ []) → Since o a (Did task now Drawn (end_of r) mark had has)
+    pub did_move : WhereTold o (λ past. (replay past).pending ≡ []) → Since o a (Did task now Drawn (commit_end r) mark had has)
     did_move start =
         let two = since_both o a Told Worked commits.told commits.works in
         let three = since_both o a (λ old new. Told old new × Worked old new) Caused two commits.caused in
         let all = since_both o a (λ old new. (Told old new × Worked old new) × Caused old new) Succeeded three commits.succeeds in
-        since_with o a (λ past. (replay past).pending ≡ []) (λ old new. ((Told old new × Worked old new) × Caused old new) × Succeeded old new) (Did task now Drawn (end_of r) mark had has) start all
+        since_with o a (λ past. (replay past).pending ≡ []) (λ old new. ((Told old new × Worked old new) × Caused old new) × Succeeded old new) (Did task now Drawn (commit_end r) mark had has) start all
         (λ old new rest h. record {
           cause = end_caused table meanings Drawn now (replay old).files r h.0.1;
           safe = commit_steps table Nobody meanings Drawn now r old new h.0.0.0;
@@ -222,10 +222,10 @@ module _ (word : ℕ) (table : Parts) (goal : Goal) (now : ℕ) (Drawn : ℕ →
         record { place = on.place; last = on.last; bytes = on.bytes; tree = on.tree; is = on.is; holds = says_move on.last on.tree put on.holds }
 
     reported_by : (c : Committed) (old new : Past) → Reports before after (move_report kept previous id) status → CommitLeaves table Nobody meanings Drawn now (Ok c) old new
-        → ReportedBy (move_procedure goal now) table before after status (replay old).files (end_of (Ok c)).error
+        → ReportedBy (move_procedure goal now) table before after status (replay old).files (commit_end (Ok c)).error
     reported_by (Same v) old new put a = reported (Same v) old new put a
     reported_by (Published v) old new put a = reported (Published v) old new put a
 
     pub report_move : (c : Committed) (o a : Option Past) → Reports before after (move_report kept previous id) status → Since o a (CommitLeaves table Nobody meanings Drawn now (Ok c))
-        → Since o a (λ old new. ReportedBy (move_procedure goal now) table before after status (replay old).files (end_of (Ok c)).error)
-    report_move c o a put told = since_turned o a (CommitLeaves table Nobody meanings Drawn now (Ok c)) (λ old new. ReportedBy (move_procedure goal now) table before after status (replay old).files (end_of (Ok c)).error) told (λ old new h. reported_by c old new put h)
+        → Since o a (λ old new. ReportedBy (move_procedure goal now) table before after status (replay old).files (commit_end (Ok c)).error)
+    report_move c o a put told = since_turned o a (CommitLeaves table Nobody meanings Drawn now (Ok c)) (λ old new. ReportedBy (move_procedure goal now) table before after status (replay old).files (commit_end (Ok c)).error) told (λ old new h. reported_by c old new put h)

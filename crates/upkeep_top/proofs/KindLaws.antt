@@ -23,8 +23,8 @@ use Rattle.run_answers.specs.declared.status.Status.{Status}
 use Rattle.run_answers.specs.declared.status.Status.TheVariants.{Done}
 use Rattle.upkeep_top.specs.Points.{Point}
 use Rattle.upkeep_top.specs.Chains.{Leads}
-use Rattle.upkeep_top.specs.Runs.{IsDone, IsRefusal}
-use Rattle.upkeep_top.specs.Statements.{AnswersBy}
+use Rattle.upkeep_top.specs.Runs.{IsDone, IsWordRefusal}
+use Rattle.upkeep_top.specs.Statements.{StatusBy}
 use Rattle.upkeep_top.specs.Verdicts.{status_kind}
 use Rattle.upkeep_top.specs.Words.{IsBadWord, RefusesWords}
 use Rattle.upkeep_top.specs.declared.task.Task.{Task}
@@ -70,7 +70,7 @@ error_is word (CommitUnknown v) = refl
 abbrev pub TellsKind : Kind → Kind → Type 0
 TellsKind kind end = (kind ≡ end) ⊎ ((end ≡ kinds.Done) × (kind ≡ kinds.Memory))
 
-pub tells_kind : (word : ℕ) (error : Option CommitErr) (status : Status) → AnswersBy word error status → TellsKind (status_kind status) (error_kind error)
+pub tells_kind : (word : ℕ) (error : Option CommitErr) (status : Status) → StatusBy word error status → TellsKind (status_kind status) (error_kind error)
 tells_kind word None status (inl done) = inl (ap status_kind done)
 tells_kind word None status (inr (inl output)) = inl (ap status_kind output)
 tells_kind word None status (inr (inr memory)) = inr (refl, ap status_kind memory)
@@ -99,17 +99,17 @@ refused_kind words status (inl r) = ap status_kind r.1
 refused_kind words status (inr (inl r)) = bad_kind r.word _ status r.bad
 refused_kind words status (inr (inr o)) = ap status_kind o.status_is
 
-pub refusal_kind : (words : List (List ℕ)) (status : Status) → IsRefusal words status → (status_kind status ≡ kinds.Told) ⊎ (status_kind status ≡ kinds.Memory)
+pub refusal_kind : (words : List (List ℕ)) (status : Status) → IsWordRefusal words status → (status_kind status ≡ kinds.Told) ⊎ (status_kind status ≡ kinds.Memory)
 refusal_kind words status (inl r) = inl (refused_kind words status r)
 refusal_kind words status (inr m) = inr (ap status_kind m)
 
 -- Statements that are Done.
 
-pub done_error : (word : ℕ) (error : Option CommitErr) → AnswersBy word error Done → error ≡ None
+pub done_error : (word : ℕ) (error : Option CommitErr) → StatusBy word error Done → error ≡ None
 done_error word None answers = refl
 done_error word (Some e) answers = absurd (not_done word e Done answers refl)
 
-pub done_kind : (word : ℕ) (error : Option CommitErr) → AnswersBy word error Done → error_kind error ≡ kinds.Done
+pub done_kind : (word : ℕ) (error : Option CommitErr) → StatusBy word error Done → error_kind error ≡ kinds.Done
 done_kind word error answers = ap error_kind (done_error word error answers)
 
 -- what stays

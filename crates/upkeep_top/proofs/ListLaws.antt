@@ -15,7 +15,7 @@ use Rattle.commit_versions.specs.Opening.{open_kind}
 use Rattle.commit_versions.specs.declared.types.OpenErr.{OpenErr}
 use Rattle.commit_versions.specs.declared.types.OpenErr.TheVariants.{NoTable, LocationDiffers, Read as NotRead}
 use Rattle.commit_protocol.specs.Kinds.{End, error_kind}
-use Rattle.commit_protocol.specs.Metadata.{metadata_rules}
+use Rattle.commit_protocol.specs.Metadata.{table_rules}
 use Rattle.commit_protocol.specs.Verdicts.{IsTable, OpenVerdict}
 use Rattle.commit_protocol.specs.declared.errors.Refusal.{Refusal}
 use Rattle.commit_protocol.specs.declared.errors.Refusal.TheVariants.{UnknownSnapshot}
@@ -47,7 +47,7 @@ did_nothing task now Drawn error mark had old cause rests looks = record {
   cause = cause;
   safe = safe_none task.table old;
   rests = rests;
-  works = works_none (meanings_of task now).change.successor Drawn task.table now (IsTable task.table (replay old).files) (metadata_rules task.table Nobody) Anything error mark had had old old refl looks (ran_none task.table old);
+  works = works_none (meanings_of task now).change.successor Drawn task.table now (IsTable task.table (replay old).files) (table_rules task.table Nobody) Anything error mark had had old old refl looks (ran_none task.table old);
   succeed = tt;
 }
 

@@ -12,8 +12,8 @@ use Rattle.run_answers.specs.Answers.{read_status, status_of}
 use Rattle.run_answers.specs.declared.status.Status.{Status}
 use Rattle.run_answers.specs.declared.status.Status.TheVariants.{BadStatement, BadArgument, OutOfMemory}
 use Rattle.upkeep_top.specs.Points.{Point}
-use Rattle.upkeep_top.specs.Runs.{IsRefusal, IsRefusedArgument, RanAsked, RunsBy, TellsBadArgument}
-use Rattle.upkeep_top.specs.Statements.{AnswersBy}
+use Rattle.upkeep_top.specs.Runs.{IsWordRefusal, IsRefusedArgument, RanAsked, RunsBy, TellsBadArgument}
+use Rattle.upkeep_top.specs.Statements.{StatusBy}
 use Rattle.upkeep_top.specs.Words.{RefusesWords}
 use Rattle.upkeep_top.specs.declared.task.Task.{Task}
 use Rattle.upkeep_top.proofs.SuccessorLaws.{among}
@@ -69,7 +69,7 @@ by_error : (word : ℕ) (e : CommitErr) (status : Status) → status ≡ status_
 by_error word e status is (inl plain) = inl (ap is_of_words is ∙ plain)
 by_error word e status is (inr a) = inr (a.0, ap (λ (x : CommitErr). Some x) a.1, is ∙ ap (status_of word) a.1)
 
-ends_plain_or : (word : ℕ) (error : Option CommitErr) (status : Status) → AnswersBy word error status → EndsPlainOr word error status
+ends_plain_or : (word : ℕ) (error : Option CommitErr) (status : Status) → StatusBy word error status → EndsPlainOr word error status
 ends_plain_or word None status (inl done) = inl (ap is_of_words done)
 ends_plain_or word None status (inr (inl output)) = inl (ap is_of_words output)
 ends_plain_or word None status (inr (inr memory)) = inl (ap is_of_words memory)
@@ -78,7 +78,7 @@ ends_plain_or word (Some e) status is = by_error word e status is (plain_or word
 -- Of a run.
 
 module _ (words : List (List ℕ)) (status : Status) (p q : Point) where
-  of_words : IsRefusal words status → (status ≡ OutOfMemory → ⊥) → RefusesWords words status
+  of_words : IsWordRefusal words status → (status ≡ OutOfMemory → ⊥) → RefusesWords words status
   of_words (inl r) not = r
   of_words (inr m) not = absurd (not m)
 

@@ -23,8 +23,8 @@ use Rattle.commit_protocol.specs.declared.errors.CommitErr.TheVariants.{Open, At
 use Rattle.run_answers.specs.declared.status.Status.{Status}
 use Rattle.run_answers.specs.declared.status.Status.TheVariants.{Done, BadStatement, StoreFault, CommitUnknown, OutOfMemory}
 use Rattle.upkeep_top.specs.Points.{Point}
-use Rattle.upkeep_top.specs.Runs.{IsRefusal, RanAsked, RunsBy, Runs, TellsBadArgument, Row, ComesExactly, AsksNothing, IsComplete, IsSafeRun, KeepsPrefix, KeepsFiles, EachSucceeds, TellsVersions, LeavesPlaces, TellsFaultAt, EndsUnknown, MarksRun, MayLeave}
-use Rattle.upkeep_top.specs.Statements.{AnswersBy, Ends, Nobody, Any, IsSafeFor, OutputCounts}
+use Rattle.upkeep_top.specs.Runs.{IsWordRefusal, RanAsked, RunsBy, Runs, TellsBadArgument, Row, ComesExactly, AsksNothing, IsComplete, IsSafeRun, KeepsPrefix, KeepsFiles, EachSucceeds, TellsVersions, LeavesPlaces, TellsFaultAt, EndsUnknown, MarksRun, MayLeave}
+use Rattle.upkeep_top.specs.Statements.{StatusBy, Ends, Nobody, Any, IsSafeFor, OutputCounts}
 use Rattle.upkeep_top.specs.Verdicts.{Verdict, IsFree, error_status, status_kind}
 use Rattle.upkeep_top.specs.Words.{RefusesWords}
 use Rattle.upkeep_top.specs.declared.task.Task.{Task}
@@ -64,7 +64,7 @@ done_or_not word (Some e) status is = inr (not_done word e status is)
 
 -- Nothing is left.
 
-left_none : (word : ℕ) (Drawn : ℕ → Type 0) (table : Parts) (error : Option CommitErr) (status : Status) (old new : List Parts) → AnswersBy word error status → (MayLeave status → ⊥) → LeavesBy Drawn table (error_kind error) old new → new ≡ old
+left_none : (word : ℕ) (Drawn : ℕ → Type 0) (table : Parts) (error : Option CommitErr) (status : Status) (old new : List Parts) → StatusBy word error status → (MayLeave status → ⊥) → LeavesBy Drawn table (error_kind error) old new → new ≡ old
 left_none word Drawn table None status old new e none left = left
 left_none word Drawn table (Some (Open (opens.NoTable place))) status old new e none left = left
 left_none word Drawn table (Some (Open (opens.LocationDiffers place location))) status old new e none left = left
@@ -100,7 +100,7 @@ module _ (words : List (List ℕ)) (status : Status) (p q : Point) where
       subst (λ (n : ℕ). Counts (status_kind status) n q.faults) (kept r).faults
       (counts_by (status_kind status) (kind_of e.end) r.ended.from.faults q.faults (tells_kind r.ended.task.word e.end.error status e.answers) e.faults)
 
-  refused_counts : IsRefusal words status → q ≡ p → (status_kind status ≡ kinds.Told) ⊎ (status_kind status ≡ kinds.Memory) → Counts (status_kind status) p.faults q.faults
+  refused_counts : IsWordRefusal words status → q ≡ p → (status_kind status ≡ kinds.Told) ⊎ (status_kind status ≡ kinds.Memory) → Counts (status_kind status) p.faults q.faults
   refused_counts refusal same (inl k) = let stays : Counts kinds.Told p.faults q.faults = ap (λ (x : Point). x.faults) same in subst (λ (x : Kind). Counts x p.faults q.faults) (sym k) stays
   refused_counts refusal same (inr k) = let stays : Counts kinds.Memory p.faults q.faults = ap (λ (x : Point). x.faults) same in subst (λ (x : Kind). Counts x p.faults q.faults) (sym k) stays
 
@@ -116,7 +116,7 @@ module _ (words : List (List ℕ)) (status : Status) (p q : Point) where
   refused_other kind told memory is (inl k) = told (sym is ∙ k)
   refused_other kind told memory is (inr k) = memory (sym is ∙ k)
 
-  refused_done : IsRefusal words status → status_kind status ≡ kinds.Done → ⊥
+  refused_done : IsWordRefusal words status → status_kind status ≡ kinds.Done → ⊥
   refused_done r is = refused_other kinds.Done (λ k. absurd (cc (k))) (λ k. absurd (cc (k))) is (refusal_kind words status r)
 
   output_run : RunsBy words status p q → OutputCounts status p.output_faults q.output_faults

@@ -15,17 +15,17 @@ use Rattle.commit_history.specs.Readings.{Reading, Rules}
 use Rattle.commit_history.proofs.Numbering.{numbering}
 use Rattle.commit_history.proofs.Running.{ran_turned, begins}
 use Rattle.commit_publish.specs.Steps.{Anything, Exactly}
-use Rattle.commit_protocol.specs.Metadata.{metadata_local, metadata_rules}
+use Rattle.commit_protocol.specs.Metadata.{metadata_local, table_rules}
 use Rattle.upkeep_top.specs.Statements.{Nobody, Any, IsSafeFor}
 
 -- Nothing done.
 
-pub ran_none : (table : Parts) (old : Past) → Ran (metadata_rules table Nobody) (Exactly []) Anything old old
-ran_none table old = begins (metadata_rules table Nobody) (numbering table) (metadata_local table) Anything old tt
+pub ran_none : (table : Parts) (old : Past) → Ran (table_rules table Nobody) (Exactly []) Anything old old
+ran_none table old = begins (table_rules table Nobody) (numbering table) (metadata_local table) Anything old tt
 
 -- a stretch in which nothing was done is safe
 pub safe_none : (table : Parts) (old : Past) → IsSafeFor table old old
-safe_none table old = ran_turned (metadata_rules table Nobody) (Exactly []) Any Anything Anything old old (ran_none table old) (λ l e. tt) (λ h. tt)
+safe_none table old = ran_turned (table_rules table Nobody) (Exactly []) Any Anything Anything old old (ran_none table old) (λ l e. tt) (λ h. tt)
 
 -- Pending name changes.
 

@@ -8,7 +8,7 @@ use Rattle.ice_store.proofs.SinceLaws.{since_turned, since_then, since_start}
 use Rattle.ice_store.specs.declared.history.Past.{Past}
 use Rattle.commit_history.proofs.Running.{ran_then}
 use Rattle.commit_publish.specs.Steps.{Anything}
-use Rattle.commit_protocol.specs.Metadata.{metadata_rules}
+use Rattle.commit_protocol.specs.Metadata.{table_rules}
 use Rattle.run_answers.specs.declared.status.Status.{Status}
 use Rattle.run_answers.specs.declared.status.Status.TheVariants.{Done}
 use Rattle.upkeep_top.specs.Points.{Point}
@@ -28,7 +28,7 @@ abbrev pub DidOf : (t : Task) (status : Status) (p q : Point) → Ends t status 
 DidOf t status p q e = Did t e.now (Gives p.identifiers q.identifiers) e.end q.halted p.left q.left
 
 safe_then : (table : Parts) (old mid new : Past) → IsSafeFor table old mid → IsSafeFor table mid new → IsSafeFor table old new
-safe_then table old mid new a b = ran_then (metadata_rules table Nobody) Any Any Any Anything Anything (λ l k m n. tt) old mid new a b
+safe_then table old mid new a b = ran_then (table_rules table Nobody) Any Any Any Anything Anything (λ l k m n. tt) old mid new a b
 
 module _ (table : Parts) where
   ends_safe : (t : Task) (status : Status) (p q : Point) → t.table ≡ table → Ends t status p q → Since p.past q.past (IsSafeFor table)

@@ -29,7 +29,7 @@ use Rattle.run_answers.specs.declared.status.Status.{Status}
 use Rattle.run_answers.specs.declared.status.Status.TheVariants.{Done}
 use Rattle.upkeep_top.specs.Chains.{Leads}
 use Rattle.upkeep_top.specs.Points.{Point}
-use Rattle.upkeep_top.specs.Promises.{Renamed, ToldBy, all_settled, renamed_by}
+use Rattle.upkeep_top.specs.Promises.{Renamed, ToldBy, all_settled, all_renamed}
 use Rattle.upkeep_top.specs.Runs.{IsDone, RunsBy, TellsVersions, LeavesPlaces}
 use Rattle.upkeep_top.specs.Statements.{Ends}
 use Rattle.upkeep_top.specs.Verdicts.{meanings_of, status_kind}
@@ -51,7 +51,7 @@ pub record Stretch (number : Parts → ℕ) (before after : List ℕ) (old new :
   pub is : new ≡ later old events
   pub more : List ℕ
   pub added : after ≡ before ++ more
-  pub settles : (vs : List ℕ) → renamed_by number (all_settled vs) (ours events) ≡ all_settled (vs ++ more)
+  pub settles : (vs : List ℕ) → all_renamed number (all_settled vs) (ours events) ≡ all_settled (vs ++ more)
   pub clears : (n : ℕ) (rest : List Step) → made_by (length more + n) [] (ours events ++ rest) ≡ made_by n [] rest
 
 module _ (number : Parts → ℕ) where
@@ -72,9 +72,9 @@ module _ (number : Parts → ℕ) where
     more = a.more ++ b.more;
     added = b.added ∙ ap (λ (l : List ℕ). l ++ b.more) a.added ∙ append_assoc before a.more b.more;
     settles = λ vs.
-        ap (renamed_by number (all_settled vs)) (ours-append a.events b.events)
+        ap (all_renamed number (all_settled vs)) (ours-append a.events b.events)
         ∙ renamed_append number (all_settled vs) (ours a.events) (ours b.events)
-        ∙ ap (λ (r : Renamed). renamed_by number r (ours b.events)) (a.settles vs)
+        ∙ ap (λ (r : Renamed). all_renamed number r (ours b.events)) (a.settles vs)
         ∙ b.settles (vs ++ a.more)
         ∙ ap all_settled (append_assoc vs a.more b.more);
     clears = λ n rest.
@@ -146,7 +146,7 @@ told_kind kind end versions r (inr m) told =
 
 -- of a table: the versions to which its steps rename files from a beginning on at which these were settled
 abbrev pub LastTold : (Parts → ℕ) → Kind → List ℕ → List ℕ → Past → Past → Type 0
-LastTold number kind before after old new = (events : List Event) × (new ≡ later old events) × ToldBy kind after (renamed_by number (all_settled before) (ours events))
+LastTold number kind before after old new = (events : List Event) × (new ≡ later old events) × ToldBy kind after (all_renamed number (all_settled before) (ours events))
 
 module _ (t : Task) (status : Status) (p q : Point) (e : Ends t status p q) where
   told : IsTold (kind_of e.end) e.end.versions
@@ -155,7 +155,7 @@ module _ (t : Task) (status : Status) (p q : Point) (e : Ends t status p q) wher
   last_told : (old new : Past) → WorkOf t status p q e old new → LastTold (number_in t.table) (status_kind status) p.committed q.committed old new
   last_told old new w =
       let steps = ours w.events in
-      let renamed = renamed_by (number_in t.table) (all_settled p.committed) steps in
+      let renamed = all_renamed (number_in t.table) (all_settled p.committed) steps in
       let by_end = took_told (meanings_of t e.now).change.successor (Gives p.identifiers q.identifiers) t.table e.now (replay old).files (Failing q.halted new) p.committed (kind_of e.end) e.end.versions steps w.left told w.took in
       let by_status = told_kind (status_kind status) (kind_of e.end) (p.committed ++ e.end.versions) renamed (tells_kind t.word e.end.error status e.answers) by_end in
       (w.events, w.is, subst (λ (vs : List ℕ). ToldBy (status_kind status) vs renamed) (sym e.committed) by_status)
@@ -184,14 +184,14 @@ module _ (words : List (List ℕ)) (status : Status) (p q : Point) where
       since_then p.past e.from.past q.past (Stretch number p.committed e.from.committed) (LastTold number (status_kind status) e.from.committed q.committed) (TellsVersions words (status_kind status) q.committed)
       (leads_stretch r.table e.before p e.from parts.0 e.led) last
       (λ old mid new s l.
-      let first : renamed_by number (all_settled []) (ours s.events) ≡ all_settled e.from.committed = s.settles [] ∙ ap all_settled (sym (s.added ∙ ap (λ (x : List ℕ). x ++ s.more) empty)) in
-      let all : renamed_by number (all_settled []) (ours (s.events ++ l.0)) ≡ renamed_by number (all_settled e.from.committed) (ours l.0) =
-      ap (renamed_by number (all_settled [])) (ours-append s.events l.0) ∙ renamed_append number (all_settled []) (ours s.events) (ours l.0) ∙ ap (λ (x : Renamed). renamed_by number x (ours l.0)) first in
+      let first : all_renamed number (all_settled []) (ours s.events) ≡ all_settled e.from.committed = s.settles [] ∙ ap all_settled (sym (s.added ∙ ap (λ (x : List ℕ). x ++ s.more) empty)) in
+      let all : all_renamed number (all_settled []) (ours (s.events ++ l.0)) ≡ all_renamed number (all_settled e.from.committed) (ours l.0) =
+      ap (all_renamed number (all_settled [])) (ours-append s.events l.0) ∙ renamed_append number (all_settled []) (ours s.events) (ours l.0) ∙ ap (λ (x : Renamed). all_renamed number x (ours l.0)) first in
       inr (
         r.table,
         asked_of words status p q r,
         (
-          renamed_by number (all_settled e.from.committed) (ours l.0),
+          all_renamed number (all_settled e.from.committed) (ours l.0),
           record { events = s.events ++ l.0; is = l.1 ∙ ap (λ (x : Past). later x l.0) s.is ∙ later-later old s.events l.0; renamed_is = sym all },
           l.2,
         ),

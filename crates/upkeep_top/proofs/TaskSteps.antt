@@ -15,8 +15,8 @@ use Rattle.run_answers.specs.declared.status.Status.TheVariants as statuses
 use Rattle.run_answers.specs.declared.status.Status.TheVariants.{Done}
 use Rattle.upkeep_top.specs.Chains.{Leads}
 use Rattle.upkeep_top.specs.Points.{Notes, Point, Tells, at, moment}
-use Rattle.upkeep_top.specs.Runs.{Ended, IsDone, IsRefusal, Runs}
-use Rattle.upkeep_top.specs.Statements.{AnswersBy, Did, Ends, RestsBy}
+use Rattle.upkeep_top.specs.Runs.{Ended, IsDone, IsWordRefusal, Runs}
+use Rattle.upkeep_top.specs.Statements.{StatusBy, Did, Ends, RestsBy}
 use Rattle.upkeep_top.specs.Words.{Ask}
 use Rattle.upkeep_top.specs.declared.task.Task.{Task}
 use Rattle.upkeep_top.proofs.ChainLaws.{leads_on, last_of}
@@ -55,7 +55,7 @@ pub not_done_by : (status : Status) → is_done status ≡ false → status ≡ 
 not_done_by status e d = absurd (cc (e, ap is_done d))
 
 -- a statement that is Done leaves no name change pending
-rests_by : (word : ℕ) (error : Option CommitErr) (status : Status) (past : Past) → AnswersBy word error status → status ≡ Done → RestsBy (error_kind error) past → (replay past).pending ≡ []
+rests_by : (word : ℕ) (error : Option CommitErr) (status : Status) (past : Past) → StatusBy word error status → status ≡ Done → RestsBy (error_kind error) past → (replay past).pending ≡ []
 rests_by word None status past answers d rests = rests
 rests_by word (Some e) status past answers d rests = absurd (not_done word e status answers d)
 
@@ -110,5 +110,5 @@ asked_run words table tasks given same ask status status' status_is p p' q q' p_
     let over : Ended tasks status' p q = subst (λ (x : Point). Ended tasks status' p x) (sym q_is) begun in
     record { how = inr (record { table = table; tasks = tasks; ask = ask; ended = subst (λ (s : Status). Ended tasks s p q) (sym status_is) over }) }
 
-pub refused_run : (words : List (List ℕ)) (status status' : Status) → status ≡ status' → IsRefusal words status' → (p q : Point) → q ≡ p → Runs words status p q
-refused_run words status status' status_is refusal p q same = record { how = inl (subst (λ (s : Status). IsRefusal words s) (sym status_is) refusal, same) }
+pub refused_run : (words : List (List ℕ)) (status status' : Status) → status ≡ status' → IsWordRefusal words status' → (p q : Point) → q ≡ p → Runs words status p q
+refused_run words status status' status_is refusal p q same = record { how = inl (subst (λ (s : Status). IsWordRefusal words s) (sym status_is) refusal, same) }

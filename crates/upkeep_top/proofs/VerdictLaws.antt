@@ -5,7 +5,7 @@ use Rattle.ice_store.specs.declared.faults.ReadErr.{ReadErr}
 use Rattle.ice_store.specs.declared.faults.ReadErr.TheVariants as reads
 use Rattle.commit_publish.specs.Kinds.{read_kind}
 use Rattle.commit_versions.specs.declared.types.OpenErr.TheVariants as opens
-use Rattle.commit_protocol.specs.Kinds.{End, commit_kind, end_of, error_kind, kind_of}
+use Rattle.commit_protocol.specs.Kinds.{End, commit_kind, commit_end, error_kind, kind_of}
 use Rattle.commit_protocol.specs.Verdicts.{CommitVerdict, EndVerdict, IsDecided, IsOfState, IsOneDrawn, IsTold}
 use Rattle.commit_protocol.proofs.UniqueLaws.{one_commit_of}
 use Rattle.commit_protocol.specs.declared.errors.Refusal.{Refusal}
@@ -19,15 +19,15 @@ use Rattle.run_answers.specs.Answers.{read_status, refusal_status, status_of}
 use Rattle.run_answers.specs.declared.status.Status.{Status}
 use Rattle.run_answers.specs.declared.status.Status.TheVariants as statuses
 use Rattle.run_refs.proofs.ProcedureLaws.{move_decided, listing_decided}
-use Rattle.upkeep_top.specs.Procedures.{procedure_of}
-use Rattle.upkeep_top.specs.Statements.{AnswersBy}
+use Rattle.upkeep_top.specs.Procedures.{meaning_of}
+use Rattle.upkeep_top.specs.Statements.{StatusBy}
 use Rattle.upkeep_top.specs.Verdicts.{IsFree, TaskVerdict, error_status, meanings_of}
 use Rattle.upkeep_top.specs.declared.task.Task.{Task}
 use Rattle.upkeep_top.specs.declared.task.Work.{Work}
 use Rattle.upkeep_top.specs.declared.task.Work.TheVariants.{Move, List as Listing}
 
 -- the meanings of each procedure exclude one another
-decided : (work : Work) (now : ℕ) → IsDecided (procedure_of work now).change
+decided : (work : Work) (now : ℕ) → IsDecided (meaning_of work now).change
 decided (Move goal) now = move_decided goal now
 decided (Listing given) now = listing_decided given
 
@@ -45,7 +45,7 @@ module _ (task : Task) (now : ℕ) (Drawn : ℕ → Type 0) (files : List Held) 
     result : Result Committed CommitErr
     told : IsTold result
     verdict : Answers result
-    same : (end_of result).error ≡ error
+    same : (commit_end result).error ≡ error
 
   answered : (versions : List ℕ) (error : Option CommitErr) → IsOfState (error_kind error) → Causes versions error → Answered error
   answered [] None told v = record { result = Ok (Same v.last); told = tt; verdict = record { place = v.place; last = v.last; bytes = v.bytes; tree = v.tree; is = v.is; has = v.has; holds = (refl, v.holds) }; same = refl }
@@ -58,7 +58,7 @@ module _ (task : Task) (now : ℕ) (Drawn : ℕ → Type 0) (files : List Held) 
       let x = answered a.versions a.error told_a v in
       let y = answered b.versions b.error told_b w in
       let same : x.result ≡ y.result = one_commit_of (meanings_of task now).needs task.table now (meanings_of task now).change Drawn (decided task.work now) one files x.result y.result x.told y.told x.verdict y.verdict in
-      sym x.same ∙ ap (λ (r : Result Committed CommitErr). (end_of r).error) same ∙ y.same
+      sym x.same ∙ ap (λ (r : Result Committed CommitErr). (commit_end r).error) same ∙ y.same
 
 -- The status of an end.
 
@@ -121,7 +121,7 @@ by_state : (word : ℕ) (e : CommitErr) (status : Status) → status ≡ status_
 by_state word e status is (inl s) = inl (s.0, is, ap is_free is ∙ s.1)
 by_state word e status is (inr f) = inr (subst IsFree (sym is) f)
 
-pub tells_error : (word : ℕ) (error : Option CommitErr) (status : Status) → AnswersBy word error status → TellsError word error status
+pub tells_error : (word : ℕ) (error : Option CommitErr) (status : Status) → StatusBy word error status → TellsError word error status
 tells_error word None status (inl done) = inl (tt, done, ap is_free done)
 tells_error word None status (inr (inl output)) = inr (inr (inr (inl output)))
 tells_error word None status (inr (inr memory)) = inr (inr (inr (inr memory)))

@@ -16,11 +16,11 @@ use Rattle.commit_versions.specs.Names.{version_name}
 use Rattle.commit_versions.specs.Opening.{version_limit}
 use Rattle.commit_versions.proofs.NameLaws.{name_number-version}
 use Rattle.commit_versions.proofs.NumberLaws.{number_in-named}
-use Rattle.commit_protocol.specs.Ends.{Publish, TookBy, draft_of, target_of, number_of}
+use Rattle.commit_protocol.specs.Ends.{Publish, TookBy, draft_of, new_place, new_version}
 use Rattle.commit_protocol.specs.Kinds.{is_renaming}
 use Rattle.commit_protocol.specs.Verdicts.{IsTable}
 use Rattle.commit_protocol.specs.Written.{version_at}
-use Rattle.upkeep_top.specs.Promises.{Renamed, ToldBy, all_settled, last_open, renamed_after, renamed_by, renamed_to}
+use Rattle.upkeep_top.specs.Promises.{Renamed, ToldBy, all_settled, last_open, renamed_after, all_renamed, renamed_to}
 
 -- the place of a version has its number
 pub version_number : (table : Parts) (last : ℕ) → last < version_limit → number_in table (version_at table (last + 1)) ≡ last + 1
@@ -30,7 +30,7 @@ version_number table last below =
 
 -- Steps one after another.
 
-pub renamed_append : (number : Parts → ℕ) (r : Renamed) (steps more : List Step) → renamed_by number r (steps ++ more) ≡ renamed_by number (renamed_by number r steps) more
+pub renamed_append : (number : Parts → ℕ) (r : Renamed) (steps more : List Step) → all_renamed number r (steps ++ more) ≡ all_renamed number (all_renamed number r steps) more
 renamed_append number r [] more = refl
 renamed_append number r (step ∷ steps) more = renamed_append number (renamed_after number r step) steps more
 
@@ -38,7 +38,7 @@ renamed_append number r (step ∷ steps) more = renamed_append number (renamed_a
 
 module _ (number : Parts → ℕ) (draft target : Parts) (bytes : List ℕ) (versions : List ℕ) where
   abbrev pub behind : List Step → Renamed
-  behind steps = renamed_by number (all_settled versions) steps
+  behind steps = all_renamed number (all_settled versions) steps
 
   once : versions ++ [] ≡ versions
   once = append-nil versions
@@ -125,10 +125,10 @@ module _ (successor : Data → Data → Type 0) (Drawn : ℕ → Type 0) (table 
   the_draft p = draft_of successor Drawn table now (IsTable table files) p
 
   abbrev pub the_target : ThePublish → Parts
-  the_target p = target_of successor Drawn table now (IsTable table files) p
+  the_target p = new_place successor Drawn table now (IsTable table files) p
 
   abbrev pub the_number : ThePublish → ℕ
-  the_number p = number_of successor Drawn table now (IsTable table files) p
+  the_number p = new_version successor Drawn table now (IsTable table files) p
 
   abbrev pub Took : (StoreCall → Type 0) → Kind → List ℕ → List Step → List Parts → Type 0
   Took = TookBy successor Drawn table now (IsTable table files)
@@ -141,7 +141,7 @@ module _ (successor : Data → Data → Type 0) (Drawn : ℕ → Type 0) (table 
 
   module _ (Fails : StoreCall → Type 0) (committed : List ℕ) where
     abbrev after : List Step → Renamed
-    after steps = renamed_by (number_in table) (all_settled committed) steps
+    after steps = all_renamed (number_in table) (all_settled committed) steps
 
     -- where no version is told
     kind_told : (kind : Kind) (steps : List Step) (left : List Parts) → Took Fails kind [] steps left → ToldBy kind committed (after steps)

@@ -6,7 +6,7 @@ use Rattle.ice_store.specs.Places.{Parts}
 use Rattle.run_answers.specs.declared.status.Status.{Status}
 use Rattle.run_answers.specs.declared.status.Status.TheVariants.{BadArgument, OutOfMemory}
 use Rattle.upkeep_top.specs.Words.{AsksFor, IsBadWord, AskFrom, AreOf, Ask, HasBadWord, HasOtherTable, IsOther, AreOfOneTable, TablesRefuse}
-use Rattle.upkeep_top.specs.Runs.{IsRefusal}
+use Rattle.upkeep_top.specs.Runs.{IsWordRefusal}
 use Rattle.upkeep_top.specs.declared.task.Task.{Task}
 
 -- Statements.
@@ -98,11 +98,11 @@ other_by words tasks status t more (b ∷ before) other after at ask head split 
   status_is = says ∙ ap (λ (n : ℕ). BadArgument n (codes "table")) place;
 }
 
-pub refused_tables : (words : List (List ℕ)) (tasks : List Task) (status : Status) → AskFrom 0 words tasks → TablesRefuse tasks status → IsRefusal words status
+pub refused_tables : (words : List (List ℕ)) (tasks : List Task) (status : Status) → AskFrom 0 words tasks → TablesRefuse tasks status → IsWordRefusal words status
 refused_tables words tasks status ask (inl r) = inl (inl (no_words words tasks ask r.0, r.1))
 refused_tables words tasks status ask (inr (inl o)) = inl (inr (inr (other_by words tasks status o.first o.more o.other.before o.other.other o.other.after o.at ask o.is o.other.is o.other.of_table o.other.differs o.other.at_is o.status_is)))
 refused_tables words tasks status ask (inr (inr m)) = inr m
 
-pub refused_words : (words : List (List ℕ)) (status : Status) → HasBadWord words status ⊎ (status ≡ OutOfMemory) → IsRefusal words status
+pub refused_words : (words : List (List ℕ)) (status : Status) → HasBadWord words status ⊎ (status ≡ OutOfMemory) → IsWordRefusal words status
 refused_words words status (inl b) = inl (inr (inl b))
 refused_words words status (inr m) = inr m

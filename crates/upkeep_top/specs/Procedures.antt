@@ -6,6 +6,6 @@ use Rattle.upkeep_top.specs.declared.task.Work.{Work}
 use Rattle.upkeep_top.specs.declared.task.Work.TheVariants.{Move, List as Listing}
 
 -- what a work means, at a moment
-abbrev pub procedure_of : Work → ℕ → Procedure
-procedure_of (Move goal) now = move_procedure goal now
-procedure_of (Listing given) now = list_procedure given
+abbrev pub meaning_of : Work → ℕ → Procedure
+meaning_of (Move goal) now = move_procedure goal now
+meaning_of (Listing given) now = list_procedure given

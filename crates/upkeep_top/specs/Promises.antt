@@ -34,9 +34,9 @@ renamed_after number r (Remove place) = r
 renamed_after number r SyncNames = record { settled = r.settled ++ r.open_ones; open_ones = [] }
 
 -- and after these
-abbrev pub renamed_by : (Parts → ℕ) → Renamed → List Step → Renamed
-renamed_by number r [] = r
-renamed_by number r (step ∷ steps) = renamed_by number (renamed_after number r step) steps
+abbrev pub all_renamed : (Parts → ℕ) → Renamed → List Step → Renamed
+all_renamed number r [] = r
+all_renamed number r (step ∷ steps) = all_renamed number (renamed_after number r step) steps
 
 -- all of these are settled
 abbrev pub all_settled : List ℕ → Renamed
@@ -60,7 +60,7 @@ ToldBy kinds.Memory versions r = (r ≡ all_settled versions) ⊎ ((version : �
 pub record Renames (number : Parts → ℕ) (old new : Past) (renamed : Renamed) : Type 0 where
   pub events : List Event
   pub is : new ≡ later old events
-  pub renamed_is : renamed ≡ renamed_by number (all_settled []) (ours events)
+  pub renamed_is : renamed ≡ all_renamed number (all_settled []) (ours events)
 
 -- Successors.
 

@@ -50,8 +50,8 @@ abbrev pub EndedIfAny : List Task → Status → Point → Point → Type 0
 EndedIfAny tasks status p q = (first : Task) (more : List Task) → tasks ≡ first ∷ more → Ended tasks status p q
 
 -- the words are refused, or there was no memory to read them
-abbrev pub IsRefusal : List (List ℕ) → Status → Type 0
-IsRefusal words status = RefusesWords words status ⊎ (status ≡ OutOfMemory)
+abbrev pub IsWordRefusal : List (List ℕ) → Status → Type 0
+IsWordRefusal words status = RefusesWords words status ⊎ (status ≡ OutOfMemory)
 
 -- the words ask for statements of this table, which ran
 pub record RanAsked (words : List (List ℕ)) (status : Status) (p q : Point) : Type 0 where
@@ -62,7 +62,7 @@ pub record RanAsked (words : List (List ℕ)) (status : Status) (p q : Point) : 
 
 -- what a run does: refused words leave everything as it was
 abbrev pub RunsBy : List (List ℕ) → Status → Point → Point → Type 0
-RunsBy words status p q = (IsRefusal words status × (q ≡ p)) ⊎ RanAsked words status p q
+RunsBy words status p q = (IsWordRefusal words status × (q ≡ p)) ⊎ RanAsked words status p q
 
 -- a run of words, with its status, from one point to another
 pub record Runs (words : List (List ℕ)) (status : Status) (p q : Point) : Type 0 where
@@ -96,7 +96,7 @@ pub record LastRow (words : List (List ℕ)) (status asked : Status) (p q : Poin
 
 -- a status of the statements comes exactly where its cause holds
 abbrev pub ComesExactly : List (List ℕ) → Status → Point → Point → Type 0
-ComesExactly words status p q = (asked : Status) → (IsFree asked → ⊥) → IsRefusal words status ⊎ LastRow words status asked p q
+ComesExactly words status p q = (asked : Status) → (IsFree asked → ⊥) → IsWordRefusal words status ⊎ LastRow words status asked p q
 
 -- the files at the beginning of the last statement that ran ask for this status
 pub record LastAsks (words : List (List ℕ)) (status asked : Status) (p q : Point) : Type 0 where
@@ -123,8 +123,8 @@ abbrev pub Told : {S C I O : Type 0} → Tells S C I O → Objects S C I O → O
 Told t before after words outcome = OfOutcome t before after outcome (Runs words)
 
 -- each status comes exactly where its cause holds
-abbrev pub Exactly : {S C I O : Type 0} → Tells S C I O → Objects S C I O → Objects S C I O → List (List ℕ) → Outcome → Type 0
-Exactly t before after words outcome = OfOutcome t before after outcome (ComesExactly words)
+abbrev pub ComesWithCause : {S C I O : Type 0} → Tells S C I O → Objects S C I O → Objects S C I O → List (List ℕ) → Outcome → Type 0
+ComesWithCause t before after words outcome = OfOutcome t before after outcome (ComesExactly words)
 
 -- where no status has a cause, the run is Done, or memory lacked
 abbrev pub Complete : {S C I O : Type 0} → Tells S C I O → Objects S C I O → Objects S C I O → List (List ℕ) → Outcome → Type 0
@@ -181,7 +181,7 @@ LeavesPlaces committed left Risen mark old new = Leaves Risen mark (length commi
 
 -- the words are refused and no call failed; or a failed call is marked, and told at its place, by the kind of end that the status tells
 abbrev pub MarksRun : List (List ℕ) → Status → Option Failure → Option Failure → Option Past → Type 0
-MarksRun words status before now told = (IsRefusal words status × (now ≡ before)) ⊎ ((table : Parts) × AskOf words table × Marks table (status_kind status) before now told)
+MarksRun words status before now told = (IsWordRefusal words status × (now ≡ before)) ⊎ ((table : Parts) × AskOf words table × Marks table (status_kind status) before now told)
 
 -- a store fault is told at a place that the run asked for: the table, its metadata's folder or a version's place; or at a new metadata file
 abbrev pub TellsFaultAt : List (List ℕ) → Parts → Type 0

@@ -21,7 +21,7 @@ use Rattle.commit_versions.specs.declared.types.OpenErr.{OpenErr}
 use Rattle.commit_protocol.specs.Ends.{Works, DrawsBy, LeavesBy, IsPublishFault}
 use Rattle.commit_protocol.specs.Kinds.{End, kind_of}
 use Rattle.commit_protocol.specs.Meanings.{Procedure}
-use Rattle.commit_protocol.specs.Metadata.{metadata_rules}
+use Rattle.commit_protocol.specs.Metadata.{table_rules}
 use Rattle.commit_protocol.specs.Verdicts.{IsTable}
 use Rattle.commit_protocol.specs.declared.errors.CommitErr.{CommitErr}
 use Rattle.commit_protocol.specs.declared.errors.CommitErr.TheVariants.{Open, Attempt}
@@ -49,16 +49,16 @@ Any steps = Unit {0}
 
 -- from the old history to the new one each step of ours was proper for this table, sealed version files stayed, and each stop was safe
 abbrev pub IsSafeFor : Parts → Past → Past → Type 0
-IsSafeFor table = Ran (metadata_rules table Nobody) Any Anything
+IsSafeFor table = Ran (table_rules table Nobody) Any Anything
 
 -- the ends of a statement whose work is done
-abbrev pub IsEnd : Status → Type 0
-IsEnd status = (status ≡ Done) ⊎ ((status ≡ OutFault) ⊎ (status ≡ OutOfMemory))
+abbrev pub IsEndOfWork : Status → Type 0
+IsEndOfWork status = (status ≡ Done) ⊎ ((status ≡ OutFault) ⊎ (status ≡ OutOfMemory))
 
 -- a statement whose work is done is Done once its report was put
-abbrev pub AnswersBy : ℕ → Option CommitErr → Status → Type 0
-AnswersBy word None status = IsEnd status
-AnswersBy word (Some e) status = status ≡ status_of word e
+abbrev pub StatusBy : ℕ → Option CommitErr → Status → Type 0
+StatusBy word None status = IsEndOfWork status
+StatusBy word (Some e) status = status ≡ status_of word e
 
 -- what the output took of a report: all of it where the statement is Done, a prefix of it after OutFault, and else nothing
 pub record Reports (before after : Option (List ℕ)) (report : List ℕ) (status : Status) : Type 0 where
@@ -102,7 +102,7 @@ pub record Ends (task : Task) (status : Status) (p q : Point) : Type 0 where
   pub now : ℕ
   pub moment : Gives p.moments q.moments now
   pub end : End
-  pub answers : AnswersBy task.word end.error status
+  pub answers : StatusBy task.word end.error status
   pub did : Since p.past q.past (Did task now (Gives p.identifiers q.identifiers) end q.halted p.left q.left)
   pub report : Since p.past q.past (λ old new. ReportedBy (meanings_of task now) task.table p.output q.output status (replay old).files end.error)
   pub committed : q.committed ≡ p.committed ++ end.versions
@@ -120,5 +120,5 @@ pub record Ends (task : Task) (status : Status) (p q : Point) : Type 0 where
 -- what a listing of ancestors on opened metadata answers: the report of the rows, the snapshot that lacks, or want of memory
 abbrev pub IsListedBy : Option ℤ → Data → Option (List ℕ) → Option (List ℕ) → Status → Type 0
 IsListedBy given tree before after status =
-    ((rows : List Ancestor) × Lists given tree (Ok rows) × Reports before after (list_report rows) status × IsEnd status)
+    ((rows : List Ancestor) × Lists given tree (Ok rows) × Reports before after (list_report rows) status × IsEndOfWork status)
     ⊎ (((id : ℤ) × Lists given tree (Err (Lacks id)) × (status ≡ UnknownSnapshot id) × (after ≡ before)) ⊎ ((status ≡ OutOfMemory) × (after ≡ before)))

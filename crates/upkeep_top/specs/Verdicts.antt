@@ -12,7 +12,7 @@ use Rattle.commit_protocol.specs.declared.errors.CommitErr.{CommitErr}
 use Rattle.run_answers.specs.Answers.{status_of}
 use Rattle.run_answers.specs.declared.status.Status.{Status}
 use Rattle.run_answers.specs.declared.status.Status.TheVariants as statuses
-use Rattle.upkeep_top.specs.Procedures.{procedure_of}
+use Rattle.upkeep_top.specs.Procedures.{meaning_of}
 use Rattle.upkeep_top.specs.declared.task.Task.{Task}
 
 -- the table of these files, of whose version and metadata this holds
@@ -26,7 +26,7 @@ pub record OnTable (table : Parts) (files : List Held) (P : ℕ → Data → Typ
 
 -- what a statement means, at a moment
 abbrev pub meanings_of : Task → ℕ → Procedure
-meanings_of task now = procedure_of task.work now
+meanings_of task now = meaning_of task.work now
 
 -- the cause of a statement's end: its work, the moment at which it is run, and the identifiers that are drawn
 abbrev pub TaskVerdict : Task → ℕ → (ℕ → Type 0) → List Held → End → Type 0

@@ -4,7 +4,7 @@ ghost use Rattle.ice_store.specs.Others.{WhereTold};
 ghost use Rattle.serde_json.specs.View.{view};
 ghost use Rattle.commit_publish.specs.Stages.{InState};
 ghost use Rattle.upkeep_top.specs.Points.{Between, tells, at};
-ghost use Rattle.upkeep_top.specs.Statements.{Ends, IsEnd, OutputCounts, Reports, IsListedBy};
+ghost use Rattle.upkeep_top.specs.Statements.{Ends, IsEndOfWork, OutputCounts, Reports, IsListedBy};
 ghost use Rattle.upkeep_top.specs.declared.task.Task.{Task as TheTask};
 
 use crate::task::{Task, Work};
@@ -18,7 +18,7 @@ use table_metadata::{EditErr, Meta};
 // puts a report, where there was memory for it
 fn put_report<O: Sink>(out: &mut O, report: Result<Text, AllocError>) -> Status
     ensures reports { (text : List ℕ) → IfOk report (λ t. t ≡ text) → Reports (O.contents out.old) (O.contents out.new) text result }
-    ensures status { IsEnd result }
+    ensures status { IsEndOfWork result }
     ensures cause { OutputCounts result (O.faults out.old) (O.faults out.new) }
 {
     let Ok(report) = report else {

@@ -10,7 +10,7 @@ ghost use Rattle.run_answers.specs.Messages.{message_line};
 ghost use Rattle.run_answers.specs.Puts.{TakesPrefix, TakesAll};
 ghost use Rattle.run_answers.specs.declared.status.Status.{Status as TheStatus};
 ghost use Rattle.upkeep_top.specs.Points.{Between, tells, at};
-ghost use Rattle.upkeep_top.specs.Runs.{EndedIfAny, Told, TellsBadArgument, Exactly, Complete, IsSafeRun, KeepsPrefix, KeepsFiles, EachSucceeds, TellsVersions, LeavesPlaces, TellsFaultAt, EndsUnknown, MarksRun, MayLeave};
+ghost use Rattle.upkeep_top.specs.Runs.{EndedIfAny, Told, TellsBadArgument, ComesWithCause, Complete, IsSafeRun, KeepsPrefix, KeepsFiles, EachSucceeds, TellsVersions, LeavesPlaces, TellsFaultAt, EndsUnknown, MarksRun, MayLeave};
 ghost use Rattle.upkeep_top.specs.Statements.{OutputCounts};
 ghost use Rattle.upkeep_top.specs.Verdicts.{status_kind};
 ghost use Rattle.upkeep_top.specs.Words.{RefusesWords};
@@ -101,7 +101,7 @@ pub fn run<R: AllocGlobal, S: Store<Alone>, C: Clock, I: Ids, O: Sink, X: Sink>(
     ensures no_call { (status : TheStatus) → RefusesWords words.now status → store.new ≡ store.old }
     ensures bad_statement { (word at : ℕ) → result.status ≡ Status.BadStatement word at → RefusesWords words.now result.status }
     ensures bad_argument { TellsBadArgument words.now result.status }
-    ensures exactly { Exactly (tells S.past S.faults S.halted C.given I.given O.contents O.faults) (at store.old clock.old ids.old out.old) (at store.new clock.new ids.new out.new) words.now result }
+    ensures exactly { ComesWithCause (tells S.past S.faults S.halted C.given I.given O.contents O.faults) (at store.old clock.old ids.old out.old) (at store.new clock.new ids.new out.new) words.now result }
     ensures complete { Complete (tells S.past S.faults S.halted C.given I.given O.contents O.faults) (at store.old clock.old ids.old out.old) (at store.new clock.new ids.new out.new) words.now result }
     ensures faults { Counts (status_kind result.status) (S.faults store.old) (S.faults store.new) }
     ensures fault_place { (place : Parts) → result.status ≡ Status.StoreFault place → TellsFaultAt words.now place }

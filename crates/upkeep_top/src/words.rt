@@ -2,7 +2,7 @@
 ghost use Rattle.std.specs.Prelude.{◌≡◌, ◌⊎◌, ◌∷◌, [], ℕ, List, Ok, Err, IfOk, IfErr, OnOk};
 ghost use Rattle.ice_store.specs.Places.{Parts};
 ghost use Rattle.upkeep_top.specs.Commands.{task_of, target_goal};
-ghost use Rattle.upkeep_top.specs.Runs.{IsRefusal};
+ghost use Rattle.upkeep_top.specs.Runs.{IsWordRefusal};
 ghost use Rattle.call_text.specs.Statement.{Spells as IsCall};
 ghost use Rattle.upkeep_top.specs.Words.{AsksFor, IsBadWord, AskFrom, HasBadWord, Ask, OtherAt, AreOfOneTable, TablesRefuse};
 ghost use Rattle.upkeep_top.specs.declared.task.Task.{Task as TheTask};
@@ -135,7 +135,7 @@ fn check_tables(alloc: Global, tasks: &[Task]) -> Result<(), Status>
 /// The statements that the words ask for: some, all of one table.
 pub(crate) fn read_words(alloc: Global, words: &[Text]) -> Result<Items<Task>, Status>
     ensures ok { IfOk result (λ tasks. (table : Parts) × Ask words.now table tasks) }
-    ensures refused { IfErr result (IsRefusal words.now) }
+    ensures refused { IfErr result (IsWordRefusal words.now) }
 {
     let tasks = match read_each(alloc, words) {
         Ok(tasks) => tasks,

@@ -18,9 +18,9 @@ use Rattle.commit_versions.specs.Latest.{IsBaseNumber}
 use Rattle.commit_versions.specs.Opening.{OpenStage, FileIs}
 use Rattle.commit_protocol.specs.Attempts.{MakesOf, AttemptLeaves}
 use Rattle.commit_protocol.specs.Ends.{DrawsBy, IsThat, LeavesBy, PublishedWorks, TellsFault, Works}
-use Rattle.commit_protocol.specs.Kinds.{end_of, kind_of, commit_kind}
-use Rattle.commit_protocol.specs.Meanings.{only}
-use Rattle.commit_protocol.specs.Metadata.{HasMetadataAt, metadata_rules}
+use Rattle.commit_protocol.specs.Kinds.{commit_end, kind_of, commit_kind}
+use Rattle.commit_protocol.specs.Meanings.{only_successor}
+use Rattle.commit_protocol.specs.Metadata.{HasMetadataAt, table_rules}
 use Rattle.commit_protocol.specs.Written.{PublishedLeaves}
 use Rattle.commit_protocol.specs.declared.change.Built.{Built}
 use Rattle.commit_protocol.specs.declared.change.Built.TheVariants.{Same as Unchanged, Next}
@@ -115,7 +115,7 @@ returns-in-Ok-Next-clause-told g c =
     let seen = subst (λ (d : Data). meanings.seen d) tree c.in-Ok-Next.ensures.seen in
     let by_manners = subst (λ m. Since p1 p2 (PublishedLeaves t (g.M.Manners.allows m) (Gives (g.I.Ids.given c.attempt.new.ids) last) c.args.now base built r)) c.in-Ok-Next.ensures.manners c.publish_built.ensures.told in
     let by_ids = subst (λ i. Since p1 p2 (PublishedLeaves t allows (Gives i last) c.args.now base built r)) c.in-Ok-Next.ensures.drawn by_manners in
-    since_then p0 p1 p2 (Ran (metadata_rules t allows) (Exactly []) K) (PublishedLeaves t allows Drawn c.args.now base built r) (AttemptLeaves t allows meanings Drawn c.args.now at r)
+    since_then p0 p1 p2 (Ran (table_rules t allows) (Exactly []) K) (PublishedLeaves t allows Drawn c.args.now base built r) (AttemptLeaves t allows meanings Drawn c.args.now at r)
     c.in-Ok-Next.ensures.told by_ids
     (λ old mid new run b. laws.attempt_then t allows c.requires.mannered c.args.now Drawn at base on meanings built made.0 limit seen old mid new run r (b at on limit))
 
@@ -136,7 +136,7 @@ returns-in-Ok-Same-clause-told g c =
     let built_so = subst (λ (b : Built). MakesOf meanings (view c.in-Ok.parts.meta) b) c.in-Ok-Same.field-0-is c.in-Ok-Same.ensures.built in
     let made : MakesOf meanings (view at.meta) Unchanged = subst (λ (d : Data). MakesOf meanings d Unchanged) tree built_so in
     let seen = subst (λ (d : Data). meanings.seen d) tree c.in-Ok-Same.ensures.seen in
-    since_turned p0 p1 (Ran (metadata_rules t allows) (Exactly []) K) (AttemptLeaves t allows meanings Drawn c.args.now at (Ok (Same base.version)))
+    since_turned p0 p1 (Ran (table_rules t allows) (Exactly []) K) (AttemptLeaves t allows meanings Drawn c.args.now at (Ok (Same base.version)))
     c.in-Ok-Same.ensures.told
     (λ old new run. laws.same_by t allows c.requires.mannered c.args.now Drawn at base on meanings old new limit made seen run)
 
@@ -155,7 +155,7 @@ returns-in-Err-clause-told g c =
     let limit = c.has_version_limit.ensures.0 (grind (arith, c.if-not-has_version_limit.false)) in
     let e = c.in-Err.e in
     let refused = subst (λ m. meanings.refuses (view m) e) c.in-Ok.ensures.meta c.in-Err.ensures.refused in
-    since_turned p0 p1 (Ran (metadata_rules t allows) (Exactly []) K) (AttemptLeaves t allows meanings Drawn c.args.now at (Err (Attempt e)))
+    since_turned p0 p1 (Ran (table_rules t allows) (Exactly []) K) (AttemptLeaves t allows meanings Drawn c.args.now at (Err (Attempt e)))
     c.in-Err.ensures.told
     (λ old new run. laws.refused_by t allows c.requires.mannered c.args.now Drawn at base on meanings e old new limit refused run)
 
@@ -187,7 +187,7 @@ pub returns-then-not-has_version_limit-clause-works : goal.returns-then-not-has_
 returns-then-not-has_version_limit-clause-works g c =
     let t = c.args.table.now in
     let allows = g.M.Manners.allows (g.S.Store.manners c.args.store.now) in
-    let rules = metadata_rules t allows in
+    let rules = table_rules t allows in
     let at = c.args.at in
     let p0 = g.S.Store.past c.args.store.now in
     let had = c.args.log.now.left.items in
@@ -198,7 +198,7 @@ returns-then-not-has_version_limit-clause-works g c =
     let Run = Ran rules (Exactly []) K in
     let runs = since_start p0 K Run c.requires.start (λ old here. laws.stays t allows c.requires.mannered c.args.now Drawn K old here) in
     let e = c.unreadable_limit.result in
-    since_turned p0 p0 (λ old new. Run old new × works.LooksBy (Failing mark new) (commit_kind e)) (Works meanings.successor Drawn t c.args.now (IsThat at) (end_of (Err e)) mark had had)
+    since_turned p0 p0 (λ old new. Run old new × works.LooksBy (Failing mark new) (commit_kind e)) (Works meanings.successor Drawn t c.args.now (IsThat at) (commit_end (Err e)) mark had had)
     (works.looked (commit_kind e) mark mark p0 p0 Run (ends.limit_marks at.place e mark p0 c.unreadable_limit.ensures) runs)
     (λ old new h. works.works_none meanings.successor Drawn t c.args.now (IsThat at) rules K (Some e) mark had had old new refl h.1 h.0)
 
@@ -220,7 +220,7 @@ pub returns-in_default-clause-works : goal.returns-in_default-clause-works
 returns-in_default-clause-works g c =
     let t = c.args.table.now in
     let allows = g.M.Manners.allows (g.S.Store.manners c.args.store.now) in
-    let rules = metadata_rules t allows in
+    let rules = table_rules t allows in
     let at = c.args.at in
     let p0 = g.S.Store.past c.args.store.now in
     let had = c.args.log.now.left.items in
@@ -230,7 +230,7 @@ returns-in_default-clause-works g c =
     let K = InState (OpenStage (number_in t) at.place) in
     let Run = Ran rules (Exactly []) K in
     let runs = since_start p0 K Run c.requires.start (λ old here. laws.stays t allows c.requires.mannered c.args.now Drawn K old here) in
-    since_turned p0 p0 Run (Works meanings.successor Drawn t c.args.now (IsThat at) (end_of (Err (Attempt (attempts.Read Memory)))) mark had had) runs
+    since_turned p0 p0 Run (Works meanings.successor Drawn t c.args.now (IsThat at) (commit_end (Err (Attempt (attempts.Read Memory)))) mark had had) runs
     (λ old new run. works.works_none meanings.successor Drawn t c.args.now (IsThat at) rules K (Some (Attempt (attempts.Read Memory))) mark had had old new refl tt run)
 
 pub returns-in_default-clause-drawn : goal.returns-in_default-clause-drawn
@@ -253,22 +253,22 @@ attempt-requires-clause-opened g c =
 
 pub returns-in-Ok-Next-clause-cause : goal.returns-in-Ok-Next-clause-cause
 returns-in-Ok-Next-clause-cause g c =
-    ends.counts_from (kind_of (end_of c.publish_built.result)) (g.S.Store.faults c.args.store.now) (g.S.Store.faults c.attempt.new.store) (g.S.Store.faults c.publish_built.new.store) c.in-Ok-Next.ensures.cause c.publish_built.ensures.cause
+    ends.counts_from (kind_of (commit_end c.publish_built.result)) (g.S.Store.faults c.args.store.now) (g.S.Store.faults c.attempt.new.store) (g.S.Store.faults c.publish_built.new.store) c.in-Ok-Next.ensures.cause c.publish_built.ensures.cause
 
 pub returns-in-Ok-Next-clause-halted : goal.returns-in-Ok-Next-clause-halted
 returns-in-Ok-Next-clause-halted g c =
-    ends.marks_from c.args.table.now (kind_of (end_of c.publish_built.result)) (g.S.Store.halted c.args.store.now) (g.S.Store.halted c.attempt.new.store) (g.S.Store.halted c.publish_built.new.store) (g.S.Store.past c.publish_built.new.store)
+    ends.marks_from c.args.table.now (kind_of (commit_end c.publish_built.result)) (g.S.Store.halted c.args.store.now) (g.S.Store.halted c.attempt.new.store) (g.S.Store.halted c.publish_built.new.store) (g.S.Store.past c.publish_built.new.store)
     c.in-Ok-Next.ensures.halted c.publish_built.ensures.halted
 
 pub returns-in-Ok-Next-clause-committed : goal.returns-in-Ok-Next-clause-committed
 returns-in-Ok-Next-clause-committed g c =
-    c.publish_built.ensures.committed ∙ ap (λ (l : List ℕ). l ++ (end_of c.publish_built.result).versions) c.in-Ok-Next.ensures.committed
+    c.publish_built.ensures.committed ∙ ap (λ (l : List ℕ). l ++ (commit_end c.publish_built.result).versions) c.in-Ok-Next.ensures.committed
 
 pub returns-in-Ok-Next-clause-left : goal.returns-in-Ok-Next-clause-left
 returns-in-Ok-Next-clause-left g c =
     let t = c.args.table.now in
     let last = g.I.Ids.given c.publish_built.new.ids in
-    let kind = kind_of (end_of c.publish_built.result) in
+    let kind = kind_of (commit_end c.publish_built.result) in
     let has = c.publish_built.new.log.left.items in
     let by_ids = subst (λ (i : Option (List ℕ)). LeavesBy (Gives i last) t kind c.attempt.new.log.left.items has) c.in-Ok-Next.ensures.drawn c.publish_built.ensures.left in
     subst (λ (l : List Parts). LeavesBy (Gives (g.I.Ids.given c.args.ids.now) last) t kind l has) c.in-Ok-Next.ensures.left by_ids
@@ -277,7 +277,7 @@ pub returns-in-Ok-Next-clause-works : goal.returns-in-Ok-Next-clause-works
 returns-in-Ok-Next-clause-works g c =
     let t = c.args.table.now in
     let allows = g.M.Manners.allows (g.S.Store.manners c.args.store.now) in
-    let rules = metadata_rules t allows in
+    let rules = table_rules t allows in
     let at = c.args.at in
     let p0 = g.S.Store.past c.args.store.now in
     let had = c.args.log.now.left.items in
@@ -300,16 +300,16 @@ returns-in-Ok-Next-clause-works g c =
     let Only = λ (tree : Data) (next : Data). next ≡ built in
     let by_ids = subst (λ (i : Option (List ℕ)). Since p1 p2 (PublishedWorks t (Gives i last) c.args.now base built r mark c.attempt.new.log.left.items has)) c.in-Ok-Next.ensures.drawn c.publish_built.ensures.works in
     let by_log = subst (λ (l : List Parts). Since p1 p2 (PublishedWorks t Drawn c.args.now base built r mark l has)) c.in-Ok-Next.ensures.left by_ids in
-    since_then p0 p1 p2 (Ran rules (Exactly []) K) (PublishedWorks t Drawn c.args.now base built r mark had has) (Works meanings.successor Drawn t c.args.now (IsThat at) (end_of r) mark had has)
+    since_then p0 p1 p2 (Ran rules (Exactly []) K) (PublishedWorks t Drawn c.args.now base built r mark had has) (Works meanings.successor Drawn t c.args.now (IsThat at) (commit_end r) mark had has)
     c.in-Ok-Next.ensures.told by_log
-    (λ old mid new run b. works.works_behind meanings.successor Drawn t c.args.now (IsThat at) rules K (end_of r) mark had has old mid new run
+    (λ old mid new run b. works.works_behind meanings.successor Drawn t c.args.now (IsThat at) rules K (commit_end r) mark had has old mid new run
     (works.works_turned Only meanings.successor Drawn t c.args.now (IsThat at) (IsThat at) (λ place last text tree that. that)
     (λ place last text tree next that is. subst (λ (d : Data). meanings.successor d next) (sym that.tree_is) (subst (λ (d : Data). meanings.successor (view at.meta) d) (sym is) made.0))
-    (end_of r) mark had has mid new (b at on limit)))
+    (commit_end r) mark had has mid new (b at on limit)))
 
 pub returns-in-Ok-Next-clause-drawn : goal.returns-in-Ok-Next-clause-drawn
 returns-in-Ok-Next-clause-drawn g c =
-    let end = end_of c.publish_built.result in
+    let end = commit_end c.publish_built.result in
     subst (λ (i : Option (List ℕ)). DrawsBy end.versions end.error i (g.I.Ids.given c.publish_built.new.ids)) c.in-Ok-Next.ensures.drawn c.publish_built.ensures.drawn
 
 pub returns-in-Ok-Same-clause-committed : goal.returns-in-Ok-Same-clause-committed
@@ -319,7 +319,7 @@ pub returns-in-Ok-Same-clause-works : goal.returns-in-Ok-Same-clause-works
 returns-in-Ok-Same-clause-works g c =
     let t = c.args.table.now in
     let allows = g.M.Manners.allows (g.S.Store.manners c.args.store.now) in
-    let rules = metadata_rules t allows in
+    let rules = table_rules t allows in
     let at = c.args.at in
     let p0 = g.S.Store.past c.args.store.now in
     let had = c.args.log.now.left.items in
@@ -330,7 +330,7 @@ returns-in-Ok-Same-clause-works g c =
     let p1 = g.S.Store.past c.attempt.new.store in
     let mark = g.S.Store.halted c.attempt.new.store in
     let has = c.attempt.new.log.left.items in
-    since_turned p0 p1 Run (Works meanings.successor Drawn t c.args.now (IsThat at) (end_of (Ok (Same c.in-Ok.parts.base.version))) mark had has) c.in-Ok-Same.ensures.told
+    since_turned p0 p1 Run (Works meanings.successor Drawn t c.args.now (IsThat at) (commit_end (Ok (Same c.in-Ok.parts.base.version))) mark had has) c.in-Ok-Same.ensures.told
     (λ old new run. works.works_none meanings.successor Drawn t c.args.now (IsThat at) rules K None mark had has old new c.in-Ok-Same.ensures.left tt run)
 
 pub returns-in-Err-clause-halted : goal.returns-in-Err-clause-halted
@@ -350,7 +350,7 @@ pub returns-in-Err-clause-works : goal.returns-in-Err-clause-works
 returns-in-Err-clause-works g c =
     let t = c.args.table.now in
     let allows = g.M.Manners.allows (g.S.Store.manners c.args.store.now) in
-    let rules = metadata_rules t allows in
+    let rules = table_rules t allows in
     let at = c.args.at in
     let p0 = g.S.Store.past c.args.store.now in
     let had = c.args.log.now.left.items in
@@ -363,7 +363,7 @@ returns-in-Err-clause-works g c =
     let has = c.attempt.new.log.left.items in
     let before = g.S.Store.halted c.args.store.now in
     let e = Attempt c.in-Err.e in
-    since_turned p0 p1 (λ old new. Run old new × works.LooksBy (Failing mark new) (commit_kind e)) (Works meanings.successor Drawn t c.args.now (IsThat at) (end_of (Err e)) mark had has)
+    since_turned p0 p1 (λ old new. Run old new × works.LooksBy (Failing mark new) (commit_kind e)) (Works meanings.successor Drawn t c.args.now (IsThat at) (commit_end (Err e)) mark had has)
     (works.looked (commit_kind e) before mark p0 p1 Run c.in-Err.ensures.halted c.in-Err.ensures.told)
     (λ old new h. works.works_none meanings.successor Drawn t c.args.now (IsThat at) rules K (Some e) mark had has old new c.in-Err.ensures.left h.1 h.0)
 
@@ -408,7 +408,7 @@ pub returns-in-Ok-Next-clause-fault_place : goal.returns-in-Ok-Next-clause-fault
 returns-in-Ok-Next-clause-fault_place g c place is =
     let t = c.args.table.now in
     let last = g.I.Ids.given c.publish_built.new.ids in
-    let by_ids = subst (λ (i : Option (List ℕ)). TellsFault (only (view c.in-Ok-Next.meta)) (Gives i last) t c.publish_built.result) c.in-Ok-Next.ensures.drawn c.publish_built.ensures.fault_place in
+    let by_ids = subst (λ (i : Option (List ℕ)). TellsFault (only_successor (view c.in-Ok-Next.meta)) (Gives i last) t c.publish_built.result) c.in-Ok-Next.ensures.drawn c.publish_built.ensures.fault_place in
     elim (by_ids place is) [
       | inl never ↦ absurd never.1
       | inr there ↦ inr there

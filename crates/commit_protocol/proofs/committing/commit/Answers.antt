@@ -8,8 +8,8 @@ use Rattle.commit_publish.specs.Steps.{Anything}
 use Rattle.commit_versions.specs.Opening.{FileIs, OpenFaultAt}
 use Rattle.commit_protocol.specs.Attempts.{AttemptLeaves, CommitLeaves}
 use Rattle.commit_protocol.specs.Ends.{CommitWorks, DrawsOn, IsThat, WasOpened, Works}
-use Rattle.commit_protocol.specs.Kinds.{end_of, kind_of, commit_kind}
-use Rattle.commit_protocol.specs.Metadata.{IsAt, OpenErrLeaves, metadata_rules}
+use Rattle.commit_protocol.specs.Kinds.{commit_end, kind_of, commit_kind}
+use Rattle.commit_protocol.specs.Metadata.{IsAt, OpenErrLeaves, table_rules}
 use Rattle.commit_protocol.specs.Verdicts.{IsCaused, IsExactly}
 use Rattle.commit_protocol.specs.declared.errors.CommitErr.{CommitErr}
 use Rattle.commit_protocol.specs.declared.errors.CommitErr.TheVariants.{Open}
@@ -128,18 +128,18 @@ attempt_on-requires-clause-read g c =
 
 pub returns-in-Ok-clause-cause : goal.returns-in-Ok-clause-cause
 returns-in-Ok-clause-cause g c =
-    ends.counts_from (kind_of (end_of c.attempt_on.result)) (g.S.Store.faults c.args.store.now) (g.S.Store.faults c.open_table.new.store) (g.S.Store.faults c.attempt_on.new.store) c.in-Ok.ensures.cause c.attempt_on.ensures.cause
+    ends.counts_from (kind_of (commit_end c.attempt_on.result)) (g.S.Store.faults c.args.store.now) (g.S.Store.faults c.open_table.new.store) (g.S.Store.faults c.attempt_on.new.store) c.in-Ok.ensures.cause c.attempt_on.ensures.cause
 
 pub returns-in-Ok-clause-halted : goal.returns-in-Ok-clause-halted
 returns-in-Ok-clause-halted g c =
-    ends.marks_from c.args.table.now (kind_of (end_of c.attempt_on.result)) (g.S.Store.halted c.args.store.now) (g.S.Store.halted c.open_table.new.store) (g.S.Store.halted c.attempt_on.new.store) (g.S.Store.past c.attempt_on.new.store)
+    ends.marks_from c.args.table.now (kind_of (commit_end c.attempt_on.result)) (g.S.Store.halted c.args.store.now) (g.S.Store.halted c.open_table.new.store) (g.S.Store.halted c.attempt_on.new.store) (g.S.Store.past c.attempt_on.new.store)
     c.in-Ok.ensures.halted c.attempt_on.ensures.halted
 
 pub returns-in-Ok-clause-works : goal.returns-in-Ok-clause-works
 returns-in-Ok-clause-works g c =
     let t = c.args.table.now in
     let allows = g.M.Manners.allows (g.S.Store.manners c.args.store.now) in
-    let rules = metadata_rules t allows in
+    let rules = table_rules t allows in
     let at = c.in-Ok.at in
     let p0 = g.S.Store.past c.args.store.now in
     let p1 = g.S.Store.past c.open_table.new.store in
@@ -150,11 +150,11 @@ returns-in-Ok-clause-works g c =
     let mark = g.S.Store.halted c.attempt_on.new.store in
     let had = c.args.log.now.left.items in
     let has = c.attempt_on.new.log.left.items in
-    since_then p0 p1 p2 (IsAt t allows at) (Works meanings.successor Drawn t c.args.now (IsThat at) (end_of r) mark had has) (CommitWorks t allows meanings Drawn c.args.now r mark had has) c.in-Ok.ensures.told c.attempt_on.ensures.works
+    since_then p0 p1 p2 (IsAt t allows at) (Works meanings.successor Drawn t c.args.now (IsThat at) (commit_end r) mark had has) (CommitWorks t allows meanings Drawn c.args.now r mark had has) c.in-Ok.ensures.told c.attempt_on.ensures.works
     (λ old mid new opened w.
-    works.works_behind meanings.successor Drawn t c.args.now (WasOpened t allows old) rules Anything (end_of r) mark had has old mid new (opened_idle t allows at.place at.text old mid opened.opened)
+    works.works_behind meanings.successor Drawn t c.args.now (WasOpened t allows old) rules Anything (commit_end r) mark had has old mid new (opened_idle t allows at.place at.text old mid opened.opened)
     (works.works_turned meanings.successor meanings.successor Drawn t c.args.now (IsThat at) (WasOpened t allows old) (λ place last text tree that. record { at = at; mid = mid; opened = opened; that = that })
-    (λ place last text tree next that is. is) (end_of r) mark had has mid new w))
+    (λ place last text tree next that is. is) (commit_end r) mark had has mid new w))
 
 pub returns-in-Err-clause-halted : goal.returns-in-Err-clause-halted
 returns-in-Err-clause-halted g c =
@@ -183,7 +183,7 @@ returns-in-Err-clause-works g c =
     let e = Open c.in-Err.e in
     since_turned p0 p1 (λ old new. OpenErrLeaves t allows c.in-Err.e old new × works.LooksBy (Failing mark new) (commit_kind e)) (CommitWorks t allows meanings Drawn c.args.now (Err e) mark had had)
     (works.looked (commit_kind e) before mark p0 p1 (OpenErrLeaves t allows c.in-Err.e) c.in-Err.ensures.halted c.in-Err.ensures.told)
-    (λ old new h. works.works_none meanings.successor Drawn t c.args.now (WasOpened t allows old) (metadata_rules t allows) Anything (Some e) mark had had old new refl h.1 (open_err_idle t allows c.in-Err.e old new h.0))
+    (λ old new h. works.works_none meanings.successor Drawn t c.args.now (WasOpened t allows old) (table_rules t allows) Anything (Some e) mark had had old new refl h.1 (open_err_idle t allows c.in-Err.e old new h.0))
 
 pub returns-in-Err-clause-drawn : goal.returns-in-Err-clause-drawn
 returns-in-Err-clause-drawn g c = inl refl
@@ -203,7 +203,7 @@ returns-in-Ok-clause-drawn_for g c =
     let mark = g.S.Store.halted c.attempt_on.new.store in
     let had = c.args.log.now.left.items in
     let has = c.attempt_on.new.log.left.items in
-    since_then p0 p1 p2 (IsAt t allows at) (Works meanings.successor (Gives before after) t c.args.now (IsThat at) (end_of r) mark had has) (DrawsOn t allows meanings before after) c.in-Ok.ensures.told c.attempt_on.ensures.works
+    since_then p0 p1 p2 (IsAt t allows at) (Works meanings.successor (Gives before after) t c.args.now (IsThat at) (commit_end r) mark had has) (DrawsOn t allows meanings before after) c.in-Ok.ensures.told c.attempt_on.ensures.works
     (λ old mid new opened w. elim c.attempt_on.ensures.drawn_for [
       | inl none ↦ inl none
       | inr made ↦ inr (record { at = at; mid = mid; opened = opened; built = made.0; made = made.1 })

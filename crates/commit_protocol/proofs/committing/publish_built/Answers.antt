@@ -14,7 +14,7 @@ use Rattle.commit_publish.specs.Steps.{Exactly}
 use Rattle.commit_versions.specs.Opening.{OpenStage}
 use Rattle.commit_protocol.specs.Ends.{DrawsBy, IsThat, LeavesBy, PublishedWorks}
 use Rattle.commit_protocol.specs.Kinds.{commit_kind}
-use Rattle.commit_protocol.specs.Metadata.{metadata_rules}
+use Rattle.commit_protocol.specs.Metadata.{table_rules}
 use Rattle.commit_protocol.specs.Written.{commit_error_by}
 use Rattle.ice_store.specs.declared.faults.ReadErr.TheVariants.{StoreFault}
 use Rattle.commit_protocol.specs.declared.errors.AttemptErr.TheVariants as attempts
@@ -55,8 +55,8 @@ returns-in-Ok-publish_version-clause-told g c =
     let p1 = g.S.Store.past c.publish.new.store in
     let r = Ok c.in-Ok-publish_version.field-0 in
     let bytes : c.deref.result.now ≡ w.bytes = c.deref.ensures.value ∙ c.inner.ensures in
-    let told = subst (λ (x : List ℕ). Since p0 p1 (PublishLeaves (metadata_rules w.route.table allows) w.route x r)) bytes c.in-Ok-publish_version.ensures.told in
-    since_turned p0 p1 (PublishLeaves (metadata_rules t allows) w.route w.bytes r) (laws.BuiltLeaves t allows c.requires.mannered c.args.now Drawn c.args.base built c.next-id.result c.next-id.ensures (Ok (Published (c.args.base.version + 1))))
+    let told = subst (λ (x : List ℕ). Since p0 p1 (PublishLeaves (table_rules w.route.table allows) w.route x r)) bytes c.in-Ok-publish_version.ensures.told in
+    since_turned p0 p1 (PublishLeaves (table_rules t allows) w.route w.bytes r) (laws.BuiltLeaves t allows c.requires.mannered c.args.now Drawn c.args.base built c.next-id.result c.next-id.ensures (Ok (Published (c.args.base.version + 1))))
     (laws.moved_in t allows c.requires.mannered c.args.now Drawn c.args.base built c.next-id.result c.next-id.ensures w is p0 p1 r told)
     (λ old new left. laws.published_ok t allows c.requires.mannered c.args.now Drawn c.args.base built c.next-id.result c.next-id.ensures w is old new left)
 
@@ -74,10 +74,10 @@ returns-in-Err-publish_version-clause-told g c =
     let r = Err e in
     let v = c.args.base.version + 1 in
     let bytes : c.deref.result.now ≡ w.bytes = c.deref.ensures.value ∙ c.inner.ensures in
-    let told = subst (λ (x : List ℕ). Since p0 p1 (PublishLeaves (metadata_rules w.route.table allows) w.route x r)) bytes c.in-Err-publish_version.ensures.told in
+    let told = subst (λ (x : List ℕ). Since p0 p1 (PublishLeaves (table_rules w.route.table allows) w.route x r)) bytes c.in-Err-publish_version.ensures.told in
     let Leaves = laws.BuiltLeaves t allows c.requires.mannered c.args.now Drawn c.args.base built c.next-id.result c.next-id.ensures in
     let error : c.commit_error.result ≡ commit_error_by e w.route.draft t v = c.commit_error.ensures ∙ ap (λ (x : Parts). commit_error_by e w.route.draft x v) is.table_is in
-    let base = since_turned p0 p1 (PublishLeaves (metadata_rules t allows) w.route w.bytes r) (Leaves (Err (commit_error_by e w.route.draft t v)))
+    let base = since_turned p0 p1 (PublishLeaves (table_rules t allows) w.route w.bytes r) (Leaves (Err (commit_error_by e w.route.draft t v)))
     (laws.moved_in t allows c.requires.mannered c.args.now Drawn c.args.base built c.next-id.result c.next-id.ensures w is p0 p1 r told)
     (λ old new left. laws.published_err t allows c.requires.mannered c.args.now Drawn c.args.base built c.next-id.result c.next-id.ensures w is old new e left) in
     subst (λ (x : CommitErr). Since p0 p1 (Leaves (Err x))) (sym error) base
@@ -111,7 +111,7 @@ pub returns-in-Err-clause-works : goal.returns-in-Err-clause-works
 returns-in-Err-clause-works g c =
     let t = c.args.table.now in
     let allows = g.M.Manners.allows (g.S.Store.manners c.args.store.now) in
-    let rules = metadata_rules t allows in
+    let rules = table_rules t allows in
     let Drawn = Gives (g.I.Ids.given c.args.ids.now) (g.I.Ids.given c.next-id.new.self) in
     let p0 = g.S.Store.past c.args.store.now in
     let base = c.args.base in
@@ -153,10 +153,10 @@ returns-in-Ok-publish_version-clause-works g c =
     let r = Ok c.in-Ok-publish_version.field-0 in
     let bytes : c.deref.result.now ≡ w.bytes = c.deref.ensures.value ∙ c.inner.ensures in
     let same : has ≡ had = c.in-Ok-publish_version.ensures.left ∙ append-nil had in
-    let told = subst (λ (x : List ℕ). Since p0 p1 (PublishLeaves (metadata_rules w.route.table allows) w.route x r)) bytes c.in-Ok-publish_version.ensures.told in
+    let told = subst (λ (x : List ℕ). Since p0 p1 (PublishLeaves (table_rules w.route.table allows) w.route x r)) bytes c.in-Ok-publish_version.ensures.told in
     let there = laws.moved_in t allows c.requires.mannered c.args.now Drawn base built id c.next-id.ensures w is p0 p1 r told in
     since_turned p0 p1 (works.Went w.route.draft w.route.target w.bytes r mark) (PublishedWorks t Drawn c.args.now base built (Ok (Published (base.version + 1))) mark had has)
-    (works.went (metadata_rules t allows) w.route w.bytes before mark p0 p1 r c.in-Ok-publish_version.ensures.halted there)
+    (works.went (table_rules t allows) w.route w.bytes before mark p0 p1 r c.in-Ok-publish_version.ensures.halted there)
     (λ old new ended. works.built_published Drawn t c.args.now base built id c.next-id.ensures w is mark had has old new same ended)
 
 pub returns-in-Ok-publish_version-clause-drawn : goal.returns-in-Ok-publish_version-clause-drawn
@@ -223,11 +223,11 @@ returns-in-Err-publish_version-clause-works g c =
     let has = c.publish.new.log.left.items in
     let r = Err e in
     let bytes : c.deref.result.now ≡ w.bytes = c.deref.ensures.value ∙ c.inner.ensures in
-    let told = subst (λ (x : List ℕ). Since p0 p1 (PublishLeaves (metadata_rules w.route.table allows) w.route x r)) bytes c.in-Err-publish_version.ensures.told in
+    let told = subst (λ (x : List ℕ). Since p0 p1 (PublishLeaves (table_rules w.route.table allows) w.route x r)) bytes c.in-Err-publish_version.ensures.told in
     let marks = subst (λ (x : List ℕ). PublishMarks w.route.draft w.route.target x r before mark p1) bytes c.in-Err-publish_version.ensures.halted in
     let there = laws.moved_in t allows c.requires.mannered c.args.now Drawn base built id c.next-id.ensures w is p0 p1 r told in
     let known = since_turned p0 p1 (works.Went w.route.draft w.route.target w.bytes r mark) (PublishedWorks t Drawn c.args.now base built (Err (commit_error_by e w.route.draft t v)) mark had has)
-    (works.went (metadata_rules t allows) w.route w.bytes before mark p0 p1 r marks there)
+    (works.went (table_rules t allows) w.route w.bytes before mark p0 p1 r marks there)
     (λ old new ended. works.built_failed Drawn t c.args.now base built id c.next-id.ensures w is mark had has old new e c.in-Err-publish_version.ensures.left ended) in
     subst (λ (x : CommitErr). Since p0 p1 (PublishedWorks t Drawn c.args.now base built (Err x) mark had has)) (sym error) known
 

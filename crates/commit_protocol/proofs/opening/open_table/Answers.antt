@@ -2,7 +2,7 @@ use Rattle.std.proofs.Common.{◌≡◌, Ok, Err}
 use Rattle.ice_store.specs.History.{replay}
 use Rattle.ice_store.proofs.SinceLaws.{since_turned}
 use Rattle.commit_versions.specs.Opening.{OpenLeaves}
-use Rattle.commit_protocol.specs.Metadata.{metadata_rules, TableLeaves, OpenErrLeaves}
+use Rattle.commit_protocol.specs.Metadata.{table_rules, TableLeaves, OpenErrLeaves}
 use Rattle.commit_protocol.specs.Verdicts.{OpenVerdict, IsExactOpening}
 use Rattle.commit_protocol.proofs.OpeningLaws as opening
 use Rattle.commit_protocol.proofs.QuietLaws.{same_past}
@@ -17,7 +17,7 @@ returns-in-Ok-clause-told g c =
     let p0 = g.S.Store.past c.args.store.now in
     let p1 = g.S.Store.past c.open_version.new.store in
     let o = c.in-Ok.opened in
-    since_turned p0 p1 (OpenLeaves (metadata_rules t allows) t (Ok o)) (TableLeaves t allows c.read_table.result) c.in-Ok.ensures.told
+    since_turned p0 p1 (OpenLeaves (table_rules t allows) t (Ok o)) (TableLeaves t allows c.read_table.result) c.in-Ok.ensures.told
     (λ old new h. opening.table_by t allows o old new h c.in-Ok.ensures.numbers c.read_table.result c.read_table.ensures)
 
 pub returns-in-Ok-clause-alone : goal.returns-in-Ok-clause-alone
@@ -43,7 +43,7 @@ returns-in-Err-clause-told g c =
     let t = c.args.table.now in
     let allows = g.M.Manners.allows (g.S.Store.manners c.args.store.now) in
     let e = c.in-Err.e in
-    since_turned (g.S.Store.past c.args.store.now) (g.S.Store.past c.open_version.new.store) (OpenLeaves (metadata_rules t allows) t (Err e)) (OpenErrLeaves t allows e) c.in-Err.ensures.told
+    since_turned (g.S.Store.past c.args.store.now) (g.S.Store.past c.open_version.new.store) (OpenLeaves (table_rules t allows) t (Err e)) (OpenErrLeaves t allows e) c.in-Err.ensures.told
     (λ old new h. opening.unopened_by t allows e old new h)
 
 pub returns-in-Err-clause-alone : goal.returns-in-Err-clause-alone
@@ -51,7 +51,7 @@ returns-in-Err-clause-alone g c nobody =
     let t = c.args.table.now in
     let allows = g.M.Manners.allows (g.S.Store.manners c.args.store.now) in
     let r = Err c.in-Err.e in
-    since_turned (g.S.Store.past c.args.store.now) (g.S.Store.past c.open_version.new.store) (OpenLeaves (metadata_rules t allows) t (Err c.in-Err.e)) (λ old new. OpenVerdict t (replay old).files r) c.in-Err.ensures.told
+    since_turned (g.S.Store.past c.args.store.now) (g.S.Store.past c.open_version.new.store) (OpenLeaves (table_rules t allows) t (Err c.in-Err.e)) (λ old new. OpenVerdict t (replay old).files r) c.in-Err.ensures.told
     (λ old new h. (opening_answered t allows nobody r old new (opening.unopened_by t allows c.in-Err.e old new h)).1)
 
 pub returns-in-Err-clause-idle : goal.returns-in-Err-clause-idle
@@ -61,7 +61,7 @@ returns-in-Err-clause-idle g c nobody =
     let p0 = g.S.Store.past c.args.store.now in
     let p1 = g.S.Store.past c.open_version.new.store in
     let r = Err c.in-Err.e in
-    same_past p0 p1 (since_turned p0 p1 (OpenLeaves (metadata_rules t allows) t (Err c.in-Err.e)) (λ old new. new ≡ old) c.in-Err.ensures.told
+    same_past p0 p1 (since_turned p0 p1 (OpenLeaves (table_rules t allows) t (Err c.in-Err.e)) (λ old new. new ≡ old) c.in-Err.ensures.told
     (λ old new h. (opening_answered t allows nobody r old new (opening.unopened_by t allows c.in-Err.e old new h)).0))
 
 pub returns-in-Ok-clause-exactly : goal.returns-in-Ok-clause-exactly

@@ -6,7 +6,7 @@ use Rattle.ice_store.proofs.SinceLaws.{since_start, since_turned}
 use Rattle.ice_store.specs.declared.faults.ReadErr.TheVariants.{Memory}
 use Rattle.ice_store.specs.declared.history.Past.{Past}
 use Rattle.commit_protocol.specs.Attempts.{CommitLeaves}
-use Rattle.commit_protocol.specs.Kinds.{End, end_of}
+use Rattle.commit_protocol.specs.Kinds.{End, commit_end}
 use Rattle.commit_protocol.specs.declared.errors.AttemptErr.TheVariants.{Read, Refused}
 use Rattle.commit_protocol.specs.declared.errors.CommitErr.{CommitErr}
 use Rattle.commit_protocol.specs.declared.errors.CommitErr.TheVariants.{Attempt, Open}
@@ -73,7 +73,7 @@ returns-in-Ok-commit g c =
     let Drawn = Gives p.identifiers q.identifiers in
     let done = c.in-Ok-commit.field-0 in
     let answer : Result Committed CommitErr = Ok done in
-    let end : End = end_of answer in
+    let end : End = commit_end answer in
     let e = c.in-Ok-commit.ensures in
     let Seen : Data → Type 0 = λ tree. (s.goal ≡ r.goal) × HasSeen r.goal tree s.previous s.id in
     let Made : ℕ → Type 0 = λ m. Commits w.table (moves_of r.goal m Seen) Drawn now answer q.halted p.left q.left p.past q.past in
@@ -122,7 +122,7 @@ returns g c =
     let ends : Ends made status p q = record {
       now = now;
       moment = c.now_ms-now.ensures.given;
-      end = end_of answer;
+      end = commit_end answer;
       answers = c.status_of_error.ensures;
       did = did_move w.word w.table r.goal now Drawn Seen answer q.halted p.left q.left p.past q.past commits c.requires.start;
       report = since_turned p.past q.past Told (λ old new. p.output ≡ p.output) commits.told (λ old new h. refl);
