@@ -21,6 +21,3 @@ pub use long::{
 pub use parts::{Head, block_head, is_sized};
 pub use text::{Bytes, MetaList, Text};
 pub use writing::{keys_are_text, write_header};
-
-#[cfg(test)]
-mod tests;

@@ -16,6 +16,3 @@ pub use avro_pieces::{DatumCause, SkipErr};
 pub use calls::{decode, encode, skip, values_are_apart};
 pub use datum::{Datum, DatumList, PairList};
 pub use fault::DatumErr;
-
-#[cfg(test)]
-mod tests;

@@ -14,8 +14,6 @@ mod primitive;
 mod reading;
 mod schema;
 mod scope;
-#[cfg(test)]
-mod tests;
 mod text;
 mod writing;
 mod written;

@@ -6,8 +6,6 @@
 #![tactic(auto)]
 
 mod command;
-#[cfg(test)]
-mod command_tests;
 mod typing;
 mod value;
 

@@ -23,12 +23,8 @@ mod number;
 mod read;
 mod state;
 mod string;
-#[cfg(test)]
-mod tests;
 mod token;
 mod token_laws;
-#[cfg(test)]
-mod token_tests;
 mod value_state;
 mod word;
 mod write;

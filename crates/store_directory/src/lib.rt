@@ -22,8 +22,6 @@ mod listing;
 mod open_files;
 mod store;
 mod streams;
-#[cfg(test)]
-mod tests;
 mod whole;
 
 pub use clock::MachineClock;

@@ -13,8 +13,6 @@ mod neighbour;
 mod sink;
 mod sources;
 mod store;
-#[cfg(test)]
-mod tests;
 
 pub use history::History;
 pub use image::{BoolList, Choice, Torn, TornList};

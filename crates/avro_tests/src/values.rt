@@ -1,7 +1,7 @@
 //! The worked rows, a value of every kind, and one table of faults. The bytes are put together by hand from the Avro
 //! specification's grammar.
 
-use super::*;
+use avro_datum::{Datum, DatumCause, DatumErr, DatumList, PairList, SkipErr, decode, encode, skip};
 use avro_schema::{Field, Logical, Schema, Text, TextList};
 use sqlite_items::{Boxed, Items};
 use std::alloc::{AllocError, Global};

@@ -2,7 +2,10 @@
 
 ghost use Rattle.std.specs.Prelude.{◌≡◌, [], ◌∷◌, IfOk, codes};
 
-use super::*;
+use avro_container::{
+    Block, BlockErr, Bytes, ContainerCause, ContainerErr, Header, MetaList, NumErr, Text,
+    next_block, read_header, read_long, write_block, write_header, write_long,
+};
 use std::alloc::{AllocError, Global};
 use std::test::Fail;
 

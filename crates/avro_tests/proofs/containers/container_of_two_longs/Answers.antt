@@ -3,7 +3,7 @@ use Rattle.std.specs.List.{IsDistinct, All, AllByRecursion}
 use Rattle.std.specs.Str.{IsUtf8, bytes_eq}
 use Rattle.avro_container.specs.Container.{Pair, value_of}
 use Rattle.avro_container.proofs.HeaderWritten.{ascii_is_text}
-use Rattle.avro_container.proofs.tests.container_of_two_longs.Goals as goal
+use Rattle.avro_tests.proofs.containers.container_of_two_longs.Goals as goal
 
 text : List ℕ
 text = 34 ∷ 108 ∷ 111 ∷ 110 ∷ 103 ∷ 34 ∷ []

@@ -1,4 +1,4 @@
-use crate::{Arg, ArgErr, ArgValue, Call, Command, OptionValues, PairTexts, Target, typed};
+use call_syntax::{Arg, ArgErr, ArgValue, Call, Command, OptionValues, PairTexts, Target, typed};
 use ice_store::{Items, Place, Text, TextList};
 use std::alloc::{AllocError, Global};
 use std::test::Fail;

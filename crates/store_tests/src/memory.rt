@@ -1,10 +1,12 @@
-use crate::{Choice, CountIds, FailAt, FixedClock, MemSink, MemStore, NumberList, Quiet, Torn};
 use ice_store::{
     Alone, Bytes, Clock, Gone, Ids, Items, Made, Moved, Place, PlaceErr, Sink, Step, Store,
     StoreCall, StoreErr, Text,
 };
 use std::alloc::Global;
 use std::test::Fail;
+use store_memory::{
+    Choice, CountIds, FailAt, FixedClock, MemSink, MemStore, NumberList, Quiet, Torn,
+};
 
 type Solo = MemStore<Quiet<Alone>>;
 

@@ -1,4 +1,4 @@
-use crate::{ArgValue, SyntaxErr, read_statement, write_statement};
+use call_text::{ArgValue, SyntaxErr, read_statement, write_statement};
 use ice_store::Text;
 use std::alloc::{AllocError, Global};
 use std::test::Fail;

@@ -1,9 +1,9 @@
-use crate::{DirStore, MachineClock, RandomIds, StreamSink};
 use ice_store::{Alone, Clock, Gone, Ids, Made, Moved, Place, Sink, Store, StoreErr, Text};
 use std::alloc::Global;
 use std::process::Abort;
 use std::test::Fail;
 use std::{env, fs};
+use store_directory::{DirStore, MachineClock, RandomIds, StreamSink};
 
 type RealStore = DirStore<Alone>;
 

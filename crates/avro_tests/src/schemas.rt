@@ -1,4 +1,4 @@
-use crate::{
+use avro_schema::{
     Bytes, Schema, SchemaCause, SchemaErr, Text, TextList, is_within, is_within_limits,
     read_schema, write_schema,
 };

@@ -1,4 +1,4 @@
-use crate::{Token, is_plain, next_token};
+use call_text::{Token, is_plain, next_token};
 use ice_store::Text;
 use std::alloc::{AllocError, Global};
 use std::test::Fail;
