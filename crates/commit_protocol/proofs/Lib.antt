@@ -10,3 +10,5 @@ pub mod EndLaws
 pub mod WorkLaws
 pub mod PromiseLaws
 pub mod ExactLaws
+pub mod NameLaws
+pub mod RoundLaws
