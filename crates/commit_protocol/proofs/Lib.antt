@@ -12,3 +12,4 @@ pub mod PromiseLaws
 pub mod ExactLaws
 pub mod NameLaws
 pub mod RoundLaws
+pub mod PlainLaws

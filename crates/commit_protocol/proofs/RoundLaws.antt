@@ -7,21 +7,29 @@ use Rattle.ice_store.specs.Given.{Gives}
 use Rattle.ice_store.specs.Others.{WhereTold}
 use Rattle.ice_store.specs.Places.{Parts}
 use Rattle.ice_store.specs.Since.{Since}
+use Rattle.ice_store.proofs.SinceLaws.{since_start}
 use Rattle.ice_store.specs.declared.faults.ReadErr.TheVariants.{Missing, Damaged, Unsupported, StoreFault, Memory}
 use Rattle.ice_store.specs.declared.history.Failure.{Failure}
 use Rattle.ice_store.specs.declared.history.Past.{Past}
 use Rattle.ice_store.specs.declared.history.Step.{Step}
 use Rattle.table_metadata.specs.Edits.{HasVersionLimit}
 use Rattle.commit_publish.specs.Kinds as kinds
-use Rattle.commit_publish.specs.Kinds.{Kind}
+use Rattle.commit_publish.specs.Kinds.{Kind, Failing}
+use Rattle.commit_publish.specs.Stages.{InState}
+use Rattle.commit_publish.specs.Steps.{Exactly}
+use Rattle.commit_versions.specs.Opening.{OpenStage}
+use Rattle.commit_history.specs.Versions.{number_in}
+use Rattle.commit_history.proofs.Numbering.{numbering}
+use Rattle.commit_history.proofs.Running.{begins, ran_turned}
+use Rattle.ice_store.specs.declared.history.StoreCall.{StoreCall}
 use Rattle.commit_protocol.specs.Attempts.{TellsLimit}
 use Rattle.commit_protocol.specs.Ends.{AddsPlaces, DrawsAlso, DrawsBy, DrawsOf, DrawsOne, IsDraft, IsDraftOrBoth, IsPublishFault, LeavesBy, LeavesOf, may_be_unasked, may_draw}
 use Rattle.commit_protocol.specs.Kinds.{attempt_kind, commit_end, kind_of}
-use Rattle.commit_protocol.specs.Meanings.{Meanings}
-use Rattle.commit_protocol.specs.Prepares.{GivesAll, GivesLast, Prepares}
+use Rattle.commit_protocol.specs.Meanings.{Meanings, looking}
+use Rattle.commit_protocol.specs.Prepares.{GivesAll, GivesLast, MoreBy, Prepared, Prepares}
 use Rattle.commit_protocol.specs.Rounds.{AttemptTells, CommitTells, IsUnasked, left_after}
 use Rattle.commit_protocol.specs.Verdicts.{IsOneDrawn}
-use Rattle.commit_protocol.specs.Metadata.{IsAt}
+use Rattle.commit_protocol.specs.Metadata.{IsAt, metadata_local, table_rules}
 use Rattle.commit_protocol.specs.declared.opening.At.{At}
 use Rattle.commit_protocol.specs.declared.errors.AttemptErr.{AttemptErr}
 use Rattle.commit_protocol.specs.declared.errors.AttemptErr.TheVariants as attempts
@@ -144,3 +152,36 @@ module _ (table : Parts) (allows : Past → Step → Type 0) (meanings : Meaning
   tells_by at (Err (Attempt e)) mark had has old mid new never opened then = record { at = at; mid = mid; opened = opened; then = then }
   tells_by at (Err (Contended version)) mark had has old mid new never opened then = record { at = at; mid = mid; opened = opened; then = then }
   tells_by at (Err (CommitUnknown version)) mark had has old mid new never opened then = record { at = at; mid = mid; opened = opened; then = then }
+
+-- An attempt that only looks.
+
+nothing_more : (Fails : StoreCall → Type 0) (kind : Kind) → MoreBy Fails kind []
+nothing_more Fails kinds.Done = refl
+nothing_more Fails kinds.Told = refl
+nothing_more Fails (kinds.Fault place) = inl refl
+nothing_more Fails (kinds.Unknown version) = refl
+nothing_more Fails (kinds.Lost version) = refl
+nothing_more Fails kinds.Memory = refl
+
+module _ (table : Parts) (allows : Past → Step → Type 0) (S : Data → Data → Type 0) (T : Data → Type 0) (R : Data → AttemptErr → Type 0) (N : Data → Type 0) where
+  abbrev pub only_looks : Meanings
+  only_looks = looking S T R N
+
+  nothing_made : (Fails : StoreCall → Type 0) (tree : Data) (kind : Kind) → Prepared Fails only_looks tree kind []
+  nothing_made Fails tree kind = record { takes = refl; only = tt; more = []; noted = refl; cause = nothing_more Fails kind }
+
+  -- it leaves all as it was
+  pub prepares_nothing : (tree : Data) (kind : Kind) (base : Parts) (mark : Option Failure) (old : Past) → InState (OpenStage (number_in table) base) old → Prepares table allows only_looks tree kind base mark old old
+  prepares_nothing tree kind base mark old here =
+      let K = InState (OpenStage (number_in table) base) in
+      ran_turned (table_rules table allows) (Exactly []) (Prepared (Failing mark old) only_looks tree kind) K K old old (begins (table_rules table allows) (numbering table) (metadata_local table) K old here)
+      (λ steps none. subst (λ (l : List Step). Prepared (Failing mark old) only_looks tree kind l) (sym none) (nothing_made (Failing mark old) tree kind)) (λ h. h)
+
+  -- so it tells
+  pub told_nothing : (tree : Data) (kind : Kind) (base : Parts) (mark : Option Failure) (o : Option Past) → WhereTold o (InState (OpenStage (number_in table) base)) → Since o o (Prepares table allows only_looks tree kind base mark)
+  told_nothing tree kind base mark o here = since_start o (InState (OpenStage (number_in table) base)) (Prepares table allows only_looks tree kind base mark) here (λ old there. prepares_nothing tree kind base mark old there)
+
+-- what is nothing is met
+pub met_nothing : (o : Option Past) → Since o o (λ old new. Unit {0})
+met_nothing None = refl
+met_nothing (Some old) = record { now = old; is = refl; holds = tt }

@@ -1,13 +1,26 @@
-use Rattle.std.proofs.Common.{Err, Ok, sym, append-nil}
-use Rattle.serde_json.specs.View.{view}
-use Rattle.ice_store.proofs.SinceLaws.{since_start}
-use Rattle.commit_history.specs.Versions.{number_in}
-use Rattle.commit_publish.specs.Stages.{InState}
-use Rattle.commit_versions.specs.Opening.{OpenStage}
-use Rattle.commit_protocol.specs.Kinds.{attempted_kind}
-use Rattle.commit_protocol.specs.Prepares.{Prepares}
-use Rattle.commit_protocol.proofs.RoundLaws.{prepares_nothing}
-use Rattle.run_refs.specs.Meanings.{moves_of}
+use Rattle.std.proofs.Common.{sym, append-nil}
+use Rattle.commit_protocol.proofs.RoundLaws.{met_nothing, told_nothing}
 use Rattle.run_refs.specs.Moves.{HasSeen, IsThere, Moves, RefusesMove}
 use Rattle.run_refs.proofs.moves.RefMoveChange.attempt.Goals as goal
 
+pub returns-in_err-moved-clause-told : goal.returns-in_err-moved-clause-told
+returns-in_err-moved-clause-told g c =
+    let r = c.args.self.now in
+    told_nothing c.args._table.now (g.M.Manners.allows (g.S.Store.manners c.args._store.now)) (Moves r.goal r.now) (IsThere r.goal) (RefusesMove r.goal) _ _ _ c.args._base.now (g.S.Store.halted c.args._store.now) (g.S.Store.past c.args._store.now) c.requires.start
+
+pub returns-clause-told : goal.returns-clause-told
+returns-clause-told g c =
+    let r = c.args.self.now in
+    told_nothing c.args._table.now (g.M.Manners.allows (g.S.Store.manners c.args._store.now)) (Moves r.goal r.now) (IsThere r.goal) (RefusesMove r.goal) _ _ _ c.args._base.now (g.S.Store.halted c.args._store.now) (g.S.Store.past c.args._store.now) c.requires.start
+
+pub returns-in_err-moved-clause-met : goal.returns-in_err-moved-clause-met
+returns-in_err-moved-clause-met g c = met_nothing (g.S.Store.past c.args._store.now)
+
+pub returns-clause-met : goal.returns-clause-met
+returns-clause-met g c = met_nothing (g.S.Store.past c.args._store.now)
+
+pub returns-in_err-moved-clause-left : goal.returns-in_err-moved-clause-left
+returns-in_err-moved-clause-left g c = sym (append-nil c.args._log.now.left.items)
+
+pub returns-clause-left : goal.returns-clause-left
+returns-clause-left g c = sym (append-nil c.args._log.now.left.items)
