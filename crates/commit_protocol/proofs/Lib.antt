@@ -10,3 +10,6 @@ pub mod EndLaws
 pub mod WorkLaws
 pub mod PromiseLaws
 pub mod ExactLaws
+pub mod NameLaws
+pub mod RoundLaws
+pub mod PlainLaws

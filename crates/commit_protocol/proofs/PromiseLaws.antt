@@ -1,6 +1,11 @@
 -- What every stop of a commit leaves, and what a published version succeeds.
-use Rattle.std.proofs.Common.{◌≡◌, inl, ℕ, zero, suc, List, [], ◌∷◌, ◌++◌, take, Option, Some, Result, Ok, Err, ap, ◌∙◌, sym, subst}
+use Rattle.std.proofs.Common.{◌≡◌, inl, inr, ℕ, zero, suc, List, [], ◌∷◌, ◌++◌, take, Option, Some, Result, Ok, Err, ap, ◌∙◌, sym, subst}
+use Rattle.serde_json.specs.Data.{Data}
 use Rattle.serde_json.specs.View.{view}
+use Rattle.table_metadata.specs.Edits.{next_version}
+use Rattle.metadata_view.specs.View.{location_of}
+use Rattle.commit_versions.specs.Names.{version_text_of}
+use Rattle.ice_store.specs.declared.history.Failure.{Failure}
 use Rattle.ice_store.specs.Places.{Parts}
 use Rattle.ice_store.specs.History.{Disk, replay, later}
 use Rattle.ice_store.proofs.HistoryLaws.{later-later}
@@ -15,19 +20,20 @@ use Rattle.commit_history.specs.Steady.{IsSteady, Each, IsFreshChange}
 use Rattle.commit_history.specs.Tables.{Whole, table as table_in, sealed_at}
 use Rattle.commit_history.specs.Runs.{Ran, Along, IsSafe}
 use Rattle.commit_history.proofs.Following.{standing_disk}
+use Rattle.commit_history.proofs.Running.{along_last}
 use Rattle.commit_publish.specs.Stages.{Holds}
 use Rattle.commit_publish.specs.Steps.{Anything}
 use Rattle.commit_protocol.specs.Metadata.{metadata_reading, table_rules}
 use Rattle.commit_protocol.specs.Meanings.{Meanings}
-use Rattle.commit_protocol.specs.Attempts.{CommitLeaves}
-use Rattle.commit_protocol.specs.Promises.{IsWholeAt, AtEachStop, HasPrefix, HasFiles, StopsHavePrefix, StopsHaveFiles, Succeeds}
+use Rattle.commit_protocol.specs.Rounds.{BuiltBy, CommitTells, IsUnasked}
+use Rattle.commit_protocol.specs.Promises.{IsWholeAt, AtEachStop, HasPrefix, HasFiles, StopsHavePrefix, StopsHaveFiles, Succeeds, Succession}
 use Rattle.commit_protocol.specs.Verdicts.{IsNobody}
 use Rattle.commit_protocol.specs.declared.errors.CommitErr.{CommitErr}
 use Rattle.commit_protocol.specs.declared.errors.Committed.{Committed}
 use Rattle.commit_protocol.specs.declared.errors.Committed.TheVariants.{Same, Published}
 use Rattle.ice_store.specs.Since.{Since}
 use Rattle.ice_store.proofs.SinceLaws.{since_turned}
-use Rattle.commit_protocol.proofs.StepLaws.{commit_steps}
+use Rattle.commit_protocol.proofs.StepLaws.{tells_steps}
 use Rattle.commit_protocol.proofs.VerdictLaws.{opening_answered}
 
 -- Stops.
@@ -68,42 +74,57 @@ module _ (table : Parts) (allows : Past → Step → Type 0) (Made : List Step �
 
 -- Successors.
 
-module _ (table : Parts) (allows : Past → Step → Type 0) (nobody : IsNobody allows) (meanings : Meanings) (Drawn : ℕ → Type 0) (now : ℕ) where
-  pub succeeds : (r : Result Committed CommitErr) (old new : Past) → CommitLeaves table allows meanings Drawn now r old new → Succeeds meanings.successor table now r old new
-  succeeds (Ok (Same v)) old new a = tt
-  succeeds (Ok (Published v)) old new a =
-      let d = a.then.3.drafted in
-      let opened = opening_answered table allows nobody (Ok a.at) old a.mid a.opened in
-      let stage = a.then.3.left.stage in
-      let based : sealed_at (replay a.mid).files a.at.place ≡ Some a.at.text → sealed_at (replay a.mid).files d.route.base ≡ Some d.route.text =
-      λ e. subst (λ (p : Parts). sealed_at (replay a.mid).files p ≡ Some d.route.text) (sym d.base_is) (e ∙ ap (λ (t : List ℕ). Some t) (sym d.text_is)) in
-      record {
-        place = a.at.place;
-        last = a.at.version;
-        text = a.at.text;
-        tree = view a.at.meta;
-        base = opened.1;
-        version = a.then.0;
-        bytes = d.bytes;
-        next = d.writes.next;
-        next_is = d.writes.is;
-        written = d.writes.written;
-        spells = d.writes.spells;
-        short = d.short;
-        acknowledged = stage.0;
-        behind = λ steady. subst (λ (t : List ℕ). Holds (standing (number_in table) new).acknowledged (Some t ∷ Some d.bytes ∷ [])) d.text_is
-            (stage.1 (record { steady = subst (λ (p : Past). IsSteady (metadata_reading table) p) (sym opened.0) steady; bytes = based (a.opened.opened.sealed steady) }));
-      }
-  succeeds (Err e) old new a = tt
+module _ (table : Parts) (allows : Past → Step → Type 0) (nobody : IsNobody allows) (meanings : Meanings) (given given' : Option (List ℕ)) (now : ℕ) where
+  pub succeeds : (r : Result Committed CommitErr) (mark : Option Failure) (had has : List Parts) (old new : Past) → CommitTells table allows meanings given given' now r mark had has old new → Succeeds meanings.successor table now r old new
+  succeeds (Ok (Same v)) mark had has old new o = tt
+  succeeds (Ok (Published v)) mark had has old new o = elim o.then [
+    | inl u ↦ absurd (no_publish u.0)
+    | inr (inl a) ↦ absurd a.answer
+    | inr (inr b) ↦ published b
+  ]
+    where
+      no_publish : IsUnasked table allows meanings given given' now o.at (Ok (Published v)) → ⊥
+      no_publish (inl is) = absurd (cc (is))
+      no_publish (inr is) = absurd (cc (is.0))
+
+      published : BuiltBy table allows meanings given given' now o.at (Ok (Published v)) mark had has o.mid new → Succession meanings.successor table now v old new
+      published b =
+          let p = b.published.3 in
+          let d = p.drafted in
+          let opened = opening_answered table allows nobody (Ok o.at) old o.mid o.opened in
+          let stage = p.left.stage in
+          let on_base : sealed_at (replay o.mid).files o.at.place ≡ Some o.at.text → sealed_at (replay b.ready).files d.route.base ≡ Some d.route.text =
+          λ e. subst (λ (q : Parts). sealed_at (replay b.ready).files q ≡ Some d.route.text) (sym d.base_is) (b.prepared.stays o.at.place o.at.text o.opened.opened.listed.positive e ∙ ap (λ (t : List ℕ). Some t) (sym d.text_is)) in
+          record {
+            place = o.at.place;
+            last = o.at.version;
+            text = o.at.text;
+            tree = view o.at.meta;
+            base = opened.1;
+            version = b.published.0;
+            bytes = d.bytes;
+            next = d.writes.next;
+            next_is = record { built = b.built; changed = b.is; is = d.writes.is.is ∙ ap (λ (x : Data). next_version (version_text_of (location_of (view o.at.meta)) o.at.version) now x) d.writes.is.changed };
+            written = d.writes.written;
+            spells = d.writes.spells;
+            short = d.short;
+            acknowledged = stage.0;
+            behind = λ steady. subst (λ (t : List ℕ). Holds (standing (number_in table) new).acknowledged (Some t ∷ Some d.bytes ∷ [])) d.text_is
+                (stage.1 (record { steady = ready_steady b (subst (λ (q : Past). IsSteady (metadata_reading table) q) (sym opened.0) steady); bytes = on_base (o.opened.opened.sealed steady) }));
+          }
+        where
+          ready_steady : (b : BuiltBy table allows meanings given given' now o.at (Ok (Published v)) mark had has o.mid new) → IsSteady (metadata_reading table) o.mid → IsSteady (metadata_reading table) b.ready
+          ready_steady b steady = subst (λ (q : Past). IsSteady (metadata_reading table) q) (sym b.prepared.is) (along_last (IsSafe (metadata_reading table)) o.mid b.prepared.events (b.prepared.safe steady)).steady
+  succeeds (Err e) mark had has old new o = tt
 
 -- Of a commit, where its history is told.
 
-module _ (table : Parts) (allows : Past → Step → Type 0) (meanings : Meanings) (Drawn : ℕ → Type 0) (now : ℕ) (r : Result Committed CommitErr) (o a : Option Past) where
+module _ (table : Parts) (allows : Past → Step → Type 0) (meanings : Meanings) (given given' : Option (List ℕ)) (now : ℕ) (r : Result Committed CommitErr) (mark : Option Failure) (had has : List Parts) (o a : Option Past) where
   abbrev pub Told : Past → Past → Type 0
-  Told = CommitLeaves table allows meanings Drawn now r
+  Told = CommitTells table allows meanings given given' now r mark had has
 
   steps : (old new : Past) → Told old new → Steps table allows (λ l. Unit {0}) old new
-  steps old new h = commit_steps table allows meanings Drawn now r old new h
+  steps old new h = tells_steps table allows meanings given given' now r mark had has old new h
 
   pub stops_have_prefix : Since o a Told → Since o a (StopsHavePrefix table)
   stops_have_prefix told = since_turned o a Told (StopsHavePrefix table) told (λ old new h whole. prefixes table allows (λ l. Unit {0}) old whole new (steps old new h))
@@ -112,4 +133,4 @@ module _ (table : Parts) (allows : Past → Step → Type 0) (meanings : Meaning
   stops_have_files told = since_turned o a Told (StopsHaveFiles table) told (λ old new h whole. files table allows (λ l. Unit {0}) old whole new (steps old new h))
 
   pub each_succeeds : IsNobody allows → Since o a Told → Since o a (Succeeds meanings.successor table now r)
-  each_succeeds nobody told = since_turned o a Told (Succeeds meanings.successor table now r) told (succeeds table allows nobody meanings Drawn now r)
+  each_succeeds nobody told = since_turned o a Told (Succeeds meanings.successor table now r) told (succeeds table allows nobody meanings given given' now r mark had has)

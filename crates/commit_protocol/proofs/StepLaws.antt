@@ -1,6 +1,10 @@
 -- However a commit ends, its steps were proper, and each stop within it is safe.
-use Rattle.std.proofs.Common.{◌≡◌, inl, inr, ℕ, false, List, [], Result, Ok, Err}
+use Rattle.std.proofs.Common.{◌≡◌, inl, inr, ℕ, false, List, [], Option, Result, Ok, Err}
+use Rattle.serde_json.specs.Data.{Data}
+use Rattle.serde_json.specs.View.{view}
+use Rattle.ice_store.specs.Given.{Gives}
 use Rattle.ice_store.specs.Places.{Parts}
+use Rattle.ice_store.specs.declared.history.Failure.{Failure}
 use Rattle.ice_store.specs.Files.{is_named}
 use Rattle.ice_store.specs.declared.history.Past.{Past}
 use Rattle.ice_store.specs.declared.history.Step.{Step}
@@ -20,7 +24,12 @@ use Rattle.commit_publish.specs.declared.publish.PublishErr.TheVariants as publi
 use Rattle.commit_versions.specs.Opening.{IsOpened, OpenStage, IsBeyond, IsLong, ReadErrLeaves}
 use Rattle.commit_versions.specs.declared.types.OpenErr.{OpenErr}
 use Rattle.commit_versions.specs.declared.types.OpenErr.TheVariants.{NoTable, LocationDiffers, Read}
-use Rattle.commit_protocol.specs.Meanings.{Meanings}
+use Rattle.commit_publish.specs.Kinds as kinds
+use Rattle.commit_publish.specs.Kinds.{Kind, Failing}
+use Rattle.commit_protocol.specs.Kinds.{commit_end, kind_of}
+use Rattle.commit_protocol.specs.Meanings.{Meanings, only_successor}
+use Rattle.commit_protocol.specs.Prepares.{Prepared, Prepares}
+use Rattle.commit_protocol.specs.Rounds.{AttemptTells, CommitTells, OpenedFirst}
 use Rattle.commit_protocol.specs.Metadata.{OpenErrLeaves, metadata_reading, table_rules}
 use Rattle.ice_store.specs.declared.store.StoreErr.TheVariants as causes
 use Rattle.commit_protocol.specs.Attempts.{PublishedBy, AttemptLeaves, CommitLeaves, Attempted, stopped_at}
@@ -130,3 +139,25 @@ module _ (table : Parts) (allows : Past → Step → Type 0) where
     commit_steps (Err (Attempt e)) old new a = attempted_steps (Err (Attempt e)) old new a
     commit_steps (Err (Contended v)) old new a = attempted_steps (Err (Contended v)) old new a
     commit_steps (Err (CommitUnknown v)) old new a = attempted_steps (Err (CommitUnknown v)) old new a
+
+  -- of a change that makes files
+  module _ (meanings : Meanings) (given given' : Option (List ℕ)) (now : ℕ) where
+    module _ (at : At) (r : Result Committed CommitErr) (mark : Option Failure) (had has : List Parts) where
+      prepared_steps : (tree : Data) (kind : Kind) (base : Parts) (before : Option Failure) (old new : Past) → Prepares table allows meanings tree kind base before old new → Steps old new
+      prepared_steps tree kind base before old new run = some (Prepared (Failing before new) meanings tree kind) (InState (OpenStage number base)) old new run
+
+      pub round_steps : (old new : Past) → AttemptTells table allows meanings given given' now at r mark had has old new → Steps old new
+      round_steps old new (inl u) = some (Exactly []) Anything old new u.2
+      round_steps old new (inr (inl a)) = prepared_steps (view at.meta) (kind_of (commit_end r)) at.place mark old new a.prepared
+      round_steps old new (inr (inr b)) =
+          both old b.ready new (prepared_steps (view at.meta) kinds.Done at.place b.before old b.ready b.prepared) (attempt_steps (only_successor b.built) (Gives b.asked given') now at b.ready new r b.published)
+
+    opened_steps : (r : Result Committed CommitErr) (mark : Option Failure) (had has : List Parts) (old new : Past) → OpenedFirst table allows meanings given given' now r mark had has old new → Steps old new
+    opened_steps r mark had has old new o = both old o.mid new (some (Exactly []) Anything old o.mid (opened_idle o.at.place o.at.text old o.mid o.opened.opened)) (round_steps o.at r mark had has o.mid new o.then)
+
+    pub tells_steps : (r : Result Committed CommitErr) (mark : Option Failure) (had has : List Parts) (old new : Past) → CommitTells table allows meanings given given' now r mark had has old new → Steps old new
+    tells_steps (Ok c) mark had has old new h = opened_steps (Ok c) mark had has old new h
+    tells_steps (Err (Open e)) mark had has old new h = some (Exactly []) Anything old new (open_err_idle e old new h.0)
+    tells_steps (Err (Attempt e)) mark had has old new h = opened_steps (Err (Attempt e)) mark had has old new h
+    tells_steps (Err (Contended v)) mark had has old new h = opened_steps (Err (Contended v)) mark had has old new h
+    tells_steps (Err (CommitUnknown v)) mark had has old new h = opened_steps (Err (CommitUnknown v)) mark had has old new h

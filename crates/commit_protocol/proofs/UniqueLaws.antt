@@ -5,7 +5,6 @@ use Rattle.serde_json.specs.Data.{Data}
 use Rattle.serde_json.specs.View.{view}
 use Rattle.serde_json.specs.Written.{compact_text}
 use Rattle.ice_store.specs.Places.{Parts, place_in}
-use Rattle.ice_store.specs.Files.{is_named}
 use Rattle.ice_store.specs.Given.{Gives}
 use Rattle.ice_store.specs.declared.history.Held.{Held}
 use Rattle.ice_store.specs.declared.faults.What.{What}
@@ -31,6 +30,7 @@ use Rattle.commit_versions.proofs.FirstPlace.{one_first}
 use Rattle.commit_protocol.specs.Meanings.{Meanings}
 use Rattle.commit_protocol.specs.Metadata.{IsMetadata, IsElsewhere, IsDamaged, IsUnsupported, unsupported}
 use Rattle.commit_protocol.specs.Attempts.{IsNextOf, limit_path}
+use Rattle.commit_protocol.specs.Prepares.{named_beside}
 use Rattle.commit_protocol.specs.Written.{draft_at}
 use Rattle.commit_protocol.specs.Verdicts.{IsLastFile, IsTable, LimitVerdict, OpenVerdict, Shown, opening_shown, IsOpeningTold, OnBase, IsShort, IsLongText, DrawsUp, CommitVerdict, IsTold, IsDecided, IsOneDrawn}
 use Rattle.commit_protocol.specs.declared.opening.At.{At}
@@ -215,7 +215,7 @@ module _ (Needs : Data → Type 0) (table : Parts) (now : ℕ) (meanings : Meani
   -- a new file is drawn up: it is too long, its name is taken, or it is published
   abbrev pub DraftCase : ℕ → Parts → ℕ → Commit → Type 0
   DraftCase last draft size r = ((file_limit < size) × (r ≡ Err (Attempt (attempts.Read (Unsupported draft FileBytes)))))
-      ⊎ ((size ≤ file_limit) × (((is_named files draft ≡ true) × (r ≡ Err (Attempt (attempts.NameTaken draft)))) ⊎ ((is_named files draft ≡ false) × (r ≡ Ok (Published (last + 1))))))
+      ⊎ ((size ≤ file_limit) × (((named_beside meanings.made files draft ≡ true) × (r ≡ Err (Attempt (attempts.NameTaken draft)))) ⊎ ((named_beside meanings.made files draft ≡ false) × (r ≡ Ok (Published (last + 1))))))
 
   pub record InDraft (last : ℕ) (tree : Data) (r : Commit) : Type 0 where
     pub id : ℕ
@@ -265,7 +265,7 @@ module _ (Needs : Data → Type 0) (table : Parts) (now : ℕ) (meanings : Meani
   refused_in : (e : AttemptErr) (P : ℕ → Data → Type 0) (b : OnBase Needs table files P) → attempt_kind e ≡ kinds.Told → meanings.refuses b.tree e → CommitCase (Err (Attempt e))
   refused_in e P b told so = made_in (Err (Attempt e)) P b (inr (inl (record { e = e; told = told; so = so; is = refl })))
 
-  taken_in : (place : Parts) (P : ℕ → Data → Type 0) (b : OnBase Needs table files P) → meanings.refuses b.tree (attempts.NameTaken place) ⊎ (Draws IsShort b.last b.tree place × (is_named files place ≡ true)) → CommitCase (Err (Attempt (attempts.NameTaken place)))
+  taken_in : (place : Parts) (P : ℕ → Data → Type 0) (b : OnBase Needs table files P) → meanings.refuses b.tree (attempts.NameTaken place) ⊎ (Draws IsShort b.last b.tree place × (named_beside meanings.made files place ≡ true)) → CommitCase (Err (Attempt (attempts.NameTaken place)))
   taken_in place P b (inl so) = refused_in (attempts.NameTaken place) P b refl so
   taken_in place P b (inr (d, named)) = draft_in (Err (Attempt (attempts.NameTaken place))) P b IsShort place d (inr (d.length_is, inl (named, refl)))
 

@@ -25,9 +25,10 @@ use Rattle.commit_publish.specs.declared.publish.Log.{Log}
 use Rattle.commit_publish.specs.declared.steps.PublishCall.{PublishCall}
 use Rattle.commit_versions.specs.Opening.{file_limit}
 use Rattle.commit_protocol.specs.Attempts.{Writes}
-use Rattle.commit_protocol.specs.Kinds.{End, commit_end, kind_of, is_renaming}
+use Rattle.commit_protocol.specs.Kinds.{End, commit_end, commit_kind, kind_of, is_renaming}
 use Rattle.commit_protocol.specs.Meanings.{Meanings}
 use Rattle.commit_protocol.specs.Metadata.{IsAt}
+use Rattle.commit_protocol.specs.Prepares.{GivesAll, GivesLast}
 use Rattle.commit_protocol.specs.Written.{IsOn, draft_at, version_at}
 use Rattle.commit_protocol.specs.declared.committing.Base.{Base}
 use Rattle.commit_protocol.specs.declared.opening.At.{At}
@@ -188,23 +189,42 @@ DrawsBy [] None before after = DrawsOne false before after
 DrawsBy (v ∷ versions) None before after = DrawsOne true before after
 DrawsBy versions (Some e) before after = DrawsOne false before after ⊎ DrawsOne (may_draw e) before after
 
--- no identifier was drawn, or the change makes a successor of this base
-abbrev pub DrawsFor : Meanings → Data → Option (List ℕ) → Option (List ℕ) → Type 0
-DrawsFor meanings tree before after = (after ≡ before) ⊎ ((built : Data) × meanings.successor tree built)
+-- an error that may come before the change is asked
+abbrev pub may_be_unasked : CommitErr → Bool
+may_be_unasked (commits.Open e) = true
+may_be_unasked (commits.Attempt (attempts.Refused refusal)) = false
+may_be_unasked (commits.Attempt (attempts.Conflict place other)) = false
+may_be_unasked (commits.Attempt (attempts.NameTaken place)) = false
+may_be_unasked (commits.Attempt (attempts.Read (reads.Missing place))) = false
+may_be_unasked (commits.Attempt (attempts.Read (reads.Damaged place at))) = true
+may_be_unasked (commits.Attempt (attempts.Read (reads.Unsupported place what))) = false
+may_be_unasked (commits.Attempt (attempts.Read (reads.StoreFault place))) = false
+may_be_unasked (commits.Attempt (attempts.Read reads.Memory)) = true
+may_be_unasked (commits.Contended version) = false
+may_be_unasked (commits.CommitUnknown version) = false
+
+-- a change's own identifiers were drawn, and one more where this says so
+abbrev pub DrawsAlso : List ℕ → Bool → Option (List ℕ) → Option (List ℕ) → Type 0
+DrawsAlso ids false before after = GivesAll ids before after
+DrawsAlso ids true before after = (id : ℕ) × GivesLast ids before after id
+
+-- which identifiers a commit draws whose change draws these, by its versions and error: the change's, and one for a version; none where the change isn't asked
+abbrev pub DrawsOf : List ℕ → List ℕ → Option CommitErr → Option (List ℕ) → Option (List ℕ) → Type 0
+DrawsOf ids [] None before after = DrawsAlso ids false before after
+DrawsOf ids (v ∷ versions) None before after = DrawsAlso ids true before after
+DrawsOf ids versions (Some e) before after = ((may_be_unasked e ≡ true) × (after ≡ before)) ⊎ (DrawsAlso ids false before after ⊎ DrawsAlso ids (may_draw e) before after)
+
+-- which places are behind those that the log had, where the change's files are these, by the versions and the error: after a publish none, and else its files, where it was asked, and those of the publish
+abbrev pub LeavesOf : List Parts → (ℕ → Type 0) → Parts → List ℕ → Option CommitErr → List Parts → List Parts → Type 0
+LeavesOf made Drawn table [] None had has = has ≡ had ++ made
+LeavesOf made Drawn table (v ∷ versions) None had has = has ≡ had
+LeavesOf made Drawn table versions (Some e) had has = ((may_be_unasked e ≡ true) × (has ≡ had)) ⊎ LeavesBy Drawn table (commit_kind e) (had ++ made) has
+
+-- so of a commit's end, between two logs
+abbrev pub IsLeftOf : Meanings → Option (List ℕ) → Option (List ℕ) → Parts → End → Log → Log → Type 0
+IsLeftOf meanings given given' table end log log' = LeavesOf meanings.made (GivesLast meanings.draws given given') table end.versions end.error log.left.items log'.left.items
 
 -- With a history.
-
--- the table was opened since this moment, and the change makes a successor of it
-pub record HasSuccessor (table : Parts) (allows : Past → Step → Type 0) (meanings : Meanings) (since : Past) : Type 0 where
-  pub at : At
-  pub mid : Past
-  pub opened : IsAt table allows at since mid
-  pub built : Data
-  pub made : meanings.successor (view at.meta) built
-
--- no identifier was drawn, or the change makes a successor of the base that was opened
-abbrev pub DrawsOn : Parts → (Past → Step → Type 0) → Meanings → Option (List ℕ) → Option (List ℕ) → Past → Past → Type 0
-DrawsOn table allows meanings before after old new = (after ≡ before) ⊎ HasSuccessor table allows meanings old
 
 -- what a publish of this successor of a base did
 abbrev pub PublishedWorks : Parts → (ℕ → Type 0) → ℕ → Base → Data → Result Committed CommitErr → Option Failure → List Parts → List Parts → Past → Past → Type 0
@@ -215,19 +235,7 @@ PublishedWorks table Drawn now base built result mark had has old new = (at : At
 abbrev pub CommitWorks : Parts → (Past → Step → Type 0) → Meanings → (ℕ → Type 0) → ℕ → Result Committed CommitErr → Option Failure → List Parts → List Parts → Past → Past → Type 0
 CommitWorks table allows meanings Drawn now result mark had has old new = Works meanings.successor Drawn table now (WasOpened table allows old) (commit_end result) mark had has old new
 
--- The same of the histories that a store tells at the entry and the exit, of the identifiers given before and after, and of the logs.
-
--- what a publish of this successor did
+-- the same of the histories that a store tells at the entry and the exit, of the identifiers given before and after, and of the logs
 abbrev pub PublishWorked : {T : Type 0} → (T → Option Past) → T → T → Parts → Option (List ℕ) → Option (List ℕ) → ℕ → Base → Data → Result Committed CommitErr → Option Failure → Log → Log → Type 0
 PublishWorked past store store' table given given' now base built result mark log log' =
     Since (past store) (past store') (PublishedWorks table (Gives given given') now base built result mark log.left.items log'.left.items)
-
--- what an attempt on this opened table did
-abbrev pub AttemptWorked : {T : Type 0} → (T → Option Past) → T → T → Parts → Meanings → Option (List ℕ) → Option (List ℕ) → ℕ → At → Result Committed CommitErr → Option Failure → Log → Log → Type 0
-AttemptWorked past store store' table meanings given given' now at result mark log log' =
-    Since (past store) (past store') (Works meanings.successor (Gives given given') table now (IsThat at) (commit_end result) mark log.left.items log'.left.items)
-
--- what a commit did
-abbrev pub Worked : {T : Type 0} → (T → Option Past) → T → T → Parts → (Past → Step → Type 0) → Meanings → Option (List ℕ) → Option (List ℕ) → ℕ → Result Committed CommitErr → Option Failure → Log → Log → Type 0
-Worked past store store' table allows meanings given given' now result mark log log' =
-    Since (past store) (past store') (CommitWorks table allows meanings (Gives given given') now result mark log.left.items log'.left.items)

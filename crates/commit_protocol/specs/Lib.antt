@@ -3,6 +3,8 @@ pub mod Metadata
 pub mod Kinds
 pub mod Attempts
 pub mod Written
+pub mod Prepares
 pub mod Ends
+pub mod Rounds
 pub mod Verdicts
 pub mod Promises

@@ -1,18 +1,40 @@
 -- What a change of a table means.
-use Rattle.std.specs.Prelude.{◌≡◌, ℕ, List}
+use Rattle.std.specs.Prelude.{◌≡◌, ℕ, List, []}
 use Rattle.serde_json.specs.Data.{Data}
+use Rattle.ice_store.specs.Places.{Parts}
+use Rattle.ice_store.specs.declared.history.Past.{Past}
+use Rattle.ice_store.specs.declared.history.Step.{Step}
+use Rattle.commit_publish.specs.Kinds.{Kind}
 use Rattle.commit_protocol.specs.declared.errors.AttemptErr.{AttemptErr}
 
--- the meanings of a change: which metadata succeeds a base's, when there is nothing to change, how a base is refused, and what was kept of the base on which it was asked
+-- the meanings of a change: which metadata succeeds a base's, when there is nothing to change, how a base is refused, and what was kept of the base on which it was asked;
+-- which steps an attempt on a base with such an end takes; the identifiers that the last attempt drew, and the files that it made, in order; and what it found of the history
 pub record Meanings : Type 1 where
   pub successor : Data → Data → Type 0
   pub same : Data → Type 0
   pub refuses : Data → AttemptErr → Type 0
   pub seen : Data → Type 0
+  pub takes : Data → Kind → List Step → Type 0
+  pub draws : List ℕ
+  pub made : List Parts
+  pub met : Past → Past → Type 0
+
+-- a change that only looks at the table: it takes no step, draws no identifier, and makes no file
+abbrev pub looking : (Data → Data → Type 0) → (Data → Type 0) → (Data → AttemptErr → Type 0) → (Data → Type 0) → Meanings
+looking successor same refuses seen = record {
+  successor = successor;
+  same = same;
+  refuses = refuses;
+  seen = seen;
+  takes = λ tree kind steps. steps ≡ [];
+  draws = [];
+  made = [];
+  met = λ old new. Unit {0};
+}
 
 -- what makes this successor of each base, and no other
 abbrev pub only_successor : Data → Meanings
-only_successor built = record { successor = λ tree next. next ≡ built; same = λ tree. ⊥; refuses = λ tree e. ⊥; seen = λ tree. Unit {0} }
+only_successor built = looking (λ tree next. next ≡ built) (λ tree. ⊥) (λ tree e. ⊥) (λ tree. Unit {0})
 
 -- what a procedure means: its change; what it needs of a base's properties; and what it reports of the base that it worked on
 pub record Procedure : Type 1 where

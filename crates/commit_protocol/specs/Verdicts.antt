@@ -4,7 +4,6 @@ use Rattle.serde_json.specs.Data.{Data}
 use Rattle.serde_json.specs.View.{view}
 use Rattle.serde_json.specs.Written.{compact_text}
 use Rattle.ice_store.specs.Places.{Parts}
-use Rattle.ice_store.specs.Files.{is_named}
 use Rattle.ice_store.specs.History.{replay}
 use Rattle.ice_store.specs.declared.history.Held.{Held}
 use Rattle.ice_store.specs.declared.history.Past.{Past}
@@ -25,6 +24,7 @@ use Rattle.commit_versions.specs.declared.types.OpenErr.TheVariants.{NoTable, Lo
 use Rattle.commit_protocol.specs.Kinds.{attempt_kind, commit_end, kind_of}
 use Rattle.commit_protocol.specs.Meanings.{Meanings}
 use Rattle.commit_protocol.specs.Metadata.{IsMetadata, IsElsewhere, IsDamaged, IsUnsupported}
+use Rattle.commit_protocol.specs.Prepares.{GivesLast, named_beside}
 use Rattle.commit_protocol.specs.Attempts.{IsNextOf, limit_path}
 use Rattle.commit_protocol.specs.Written.{draft_at}
 use Rattle.commit_protocol.specs.declared.opening.At.{At}
@@ -133,11 +133,11 @@ module _ (successor : Data → Data → Type 0) (Drawn : ℕ → Type 0) (table 
     pub is : IsNextOf successor last now tree next
     pub length_is : Long (length (compact_text next))
 
-  -- the new file's name is free
-  pub record IsDraftFree (files : List Held) (last : ℕ) (tree : Data) : Type 0 where
+  -- the new file's name is free, also of the files that the change itself has made
+  pub record IsDraftFree (made : List Parts) (files : List Held) (last : ℕ) (tree : Data) : Type 0 where
     pub draft : Parts
     pub drawn_up : DrawsUp IsShort last tree draft
-    pub free : is_named files draft ≡ false
+    pub free : named_beside made files draft ≡ false
 
 -- work with these meanings, which needs this of a base's properties, at a moment, where identifiers were drawn
 module _ (Needs : Data → Type 0) (meanings : Meanings) (Drawn : ℕ → Type 0) (table : Parts) (now : ℕ) where
@@ -151,7 +151,7 @@ module _ (Needs : Data → Type 0) (meanings : Meanings) (Drawn : ℕ → Type 0
 
   -- the new file's name is taken, or the base is refused so
   abbrev pub HasTakenName : List Held → Parts → Type 0
-  HasTakenName files place = OnBase Needs table files (λ last tree. meanings.refuses tree (attempts.NameTaken place) ⊎ (Draws IsShort last tree place × (is_named files place ≡ true)))
+  HasTakenName files place = OnBase Needs table files (λ last tree. meanings.refuses tree (attempts.NameTaken place) ⊎ (Draws IsShort last tree place × (named_beside meanings.made files place ≡ true)))
 
   -- the written form is too long, or the base is refused so
   abbrev pub IsUnsupportedText : List Held → Parts → What → Type 0
@@ -163,7 +163,7 @@ module _ (Needs : Data → Type 0) (meanings : Meanings) (Drawn : ℕ → Type 0
 
   -- this version is built, and the new file's name is free
   abbrev pub IsBuilt : List Held → ℕ → Type 0
-  IsBuilt files version = OnBase Needs table files (λ last tree. (version ≡ last + 1) × IsDraftFree meanings.successor Drawn table now files last tree)
+  IsBuilt files version = OnBase Needs table files (λ last tree. (version ≡ last + 1) × IsDraftFree meanings.successor Drawn table now meanings.made files last tree)
 
   -- the cause of an error in these files; that of a store fault and of an unknown commit is the count of faults, and want of memory is free
   abbrev pub ErrorVerdict : List Held → CommitErr → Type 0
@@ -263,3 +263,11 @@ IsCaused meanings Drawn table now result old new = CommitVerdict HasVersionLimit
 -- where nobody else acts, the meanings exclude one another and one identifier was drawn, the answer whose cause stands in the files at the entry is the one given
 abbrev pub IsExactly : (Past → Step → Type 0) → Meanings → (ℕ → Type 0) → Parts → ℕ → Result Committed CommitErr → Past → Past → Type 0
 IsExactly allows meanings Drawn table now result old new = IsNobody allows → IsDecided meanings → IsOneDrawn Drawn → IsExactCommit meanings Drawn table now result (replay old).files
+
+-- the same, by the identifiers given before and after: the change's own, and one behind them
+abbrev pub IsCausedOf : Meanings → Option (List ℕ) → Option (List ℕ) → Parts → ℕ → Result Committed CommitErr → Past → Past → Type 0
+IsCausedOf meanings given given' = IsCaused meanings (GivesLast meanings.draws given given')
+
+-- and of exactness
+abbrev pub IsExactlyOf : (Past → Step → Type 0) → Meanings → Option (List ℕ) → Option (List ℕ) → Parts → ℕ → Result Committed CommitErr → Past → Past → Type 0
+IsExactlyOf allows meanings given given' = IsExactly allows meanings (GivesLast meanings.draws given given')

@@ -1,22 +1,21 @@
 //! A change of a table, as a commit asks for it.
-ghost use Rattle.std.specs.Prelude.{◌≡◌, ◌≤◌, ◌<◌, ◌^◌, [], Ok, IfOk, IfErr, OnOk};
+ghost use Rattle.std.specs.Prelude.{◌≡◌, ◌≤◌, ◌<◌, ◌^◌, ◌++◌, Ok, IfOk, IfErr, OnOk};
 ghost use Rattle.ice_store.specs.Others.{WhereTold};
 ghost use Rattle.ice_store.specs.Since.{Since};
 ghost use Rattle.serde_json.specs.Data.{Data as Tree};
 ghost use Rattle.serde_json.specs.View.{view};
 ghost use Rattle.commit_history.specs.Mannered.{IsMannered};
-ghost use Rattle.commit_history.specs.Runs.{Ran};
 ghost use Rattle.commit_history.specs.Versions.{number_in};
 ghost use Rattle.commit_publish.specs.Stages.{InState};
-ghost use Rattle.commit_publish.specs.Steps.{Exactly};
-ghost use Rattle.commit_publish.specs.Kinds.{Counts};
-ghost use Rattle.commit_versions.specs.Opening.{OpenStage, OpenMarks};
+ghost use Rattle.commit_publish.specs.Kinds.{Counts, Marks};
+ghost use Rattle.commit_versions.specs.Opening.{OpenStage};
 ghost use Rattle.commit_protocol.specs.Meanings.{Meanings};
 ghost use Rattle.commit_protocol.specs.Metadata.{HasMetadataAt, table_rules};
 ghost use Rattle.metadata_view.specs.View.{location_of};
 ghost use Rattle.ice_store.specs.Places.{place_in};
 ghost use Rattle.commit_protocol.specs.Attempts.{MakesOf};
 ghost use Rattle.commit_protocol.specs.Kinds.{attempted_kind};
+ghost use Rattle.commit_protocol.specs.Prepares.{GivesAll, Prepares};
 ghost use Rattle.commit_protocol.specs.declared.errors.AttemptErr.{AttemptErr as Refused};
 
 use crate::errors::AttemptErr;
@@ -34,15 +33,21 @@ pub enum Built {
     Next(Meta),
 }
 
-/// A change of a table: it builds new metadata of a base, reads files if need be, and changes nothing in the store.
+/// A change of a table: it builds new metadata of a base, reads files if need be, and makes the files that the metadata
+/// names. It publishes nothing.
 pub trait Change<M: Manners> {
     /// What the change means, as it was when it was asked (the first) and as it is now: the second plays a part only in
-    /// what was kept of the base (`seen`).
+    /// what was kept of the base (`seen`) and of the attempt: the identifiers that it drew, the files that it made, and what
+    /// it found.
     ghost meanings: { Self → Self → Meanings };
 
     /// Builds the change on a base: the metadata `meta` that the version file at `base` spelled when it was read. The
-    /// metadata is given away, so that it can be changed in place. `now` is in milliseconds since 1970-01-01 UTC. A store
-    /// call of an attempt only looks at places.
+    /// metadata is given away, so that it can be changed in place. `now` is in milliseconds since 1970-01-01 UTC.
+    ///
+    /// It may make files: it creates them under free names that are no version file's, appends to them and seals them, as
+    /// `takes` says by its end, and removes and renames none. Each is put into the log's `left` before its creation is
+    /// tried, in order, and stays there (`made`), also where the attempt refuses or fails. Those of a failed creation may be
+    /// absent. The identifiers that it draws are `draws`. After a failed call it makes no further one.
     fn attempt<S: Store<M>, I: Ids>(
         &mut self,
         alloc: Global,
@@ -59,18 +64,19 @@ pub trait Change<M: Manners> {
         requires moment { now < 2 ^ 63 }
         requires here { place_in (location_of (view meta)) ≡ Ok table.now }
         requires opened { WhereTold (S.past store.old) (InState (HasMetadataAt table.now base.now (view meta))) }
-        ensures told { Since (S.past store.old) (S.past store.new) (Ran (table_rules table.now (M.allows (S.manners store.old))) (Exactly []) (InState (OpenStage (number_in table.now) base.now))) }
+        ensures told { Since (S.past store.old) (S.past store.new) (Prepares table.now (M.allows (S.manners store.old)) (meanings self.old self.new) (view meta) (attempted_kind result) base.now (S.halted store.new)) }
+        ensures met { Since (S.past store.old) (S.past store.new) (meanings self.old self.new).met }
         ensures built { IfOk result (MakesOf (meanings self.old self.new) (view meta)) }
         ensures seen { OnOk result ((meanings self.old self.new).seen (view meta)) }
         ensures refused { IfErr result ((meanings self.old self.new).refuses (view meta)) }
         ensures keeps_successor { (a b : Tree) → (meanings self.new self.new).successor a b → (meanings self.old self.new).successor a b }
         ensures keeps_same { (a : Tree) → (meanings self.new self.new).same a → (meanings self.old self.new).same a }
         ensures keeps_refuses { (a : Tree) (e : Refused) → (meanings self.new self.new).refuses a e → (meanings self.old self.new).refuses a e }
-        ensures drawn { I.given ids.new ≡ I.given ids.old }
+        ensures drawn { GivesAll (meanings self.old self.new).draws (I.given ids.old) (I.given ids.new) }
         ensures committed { log.new.committed.items ≡ log.old.committed.items }
-        ensures left { log.new.left.items ≡ log.old.left.items }
+        ensures left { log.new.left.items ≡ log.old.left.items ++ (meanings self.old self.new).made }
         ensures manners { S.manners store.new ≡ S.manners store.old }
         ensures cause { Counts (attempted_kind result) (S.faults store.old) (S.faults store.new) }
         ensures later { S.faults store.old ≤ S.faults store.new }
-        ensures halted { OpenMarks (attempted_kind result) (S.halted store.old) (S.halted store.new) (S.past store.new) };
+        ensures halted { Marks table.now (attempted_kind result) (S.halted store.old) (S.halted store.new) (S.past store.new) };
 }

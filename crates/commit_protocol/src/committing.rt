@@ -14,13 +14,15 @@ ghost use Rattle.commit_publish.specs.Stages.{Aim, Creating, InState};
 ghost use Rattle.commit_versions.specs.Latest.{IsBaseNumber};
 ghost use Rattle.commit_versions.specs.Opening.{OpenStage, OpenFaultAt, FileIs};
 ghost use Rattle.commit_versions.specs.declared.types.OpenErr.{OpenErr as TheOpenErr};
-ghost use Rattle.commit_protocol.specs.Attempts.{TellsLimit, AttemptLeaves, CommitLeaves};
-ghost use Rattle.commit_protocol.specs.Ends.{AttemptWorked, DrawsBy, DrawsFor, DrawsOn, IsRefusedBy, LeavesBy, PublishWorked, TellsFault, Worked};
+ghost use Rattle.commit_protocol.specs.Attempts.{TellsLimit};
+ghost use Rattle.commit_protocol.specs.Ends.{DrawsBy, DrawsOf, IsLeftOf, IsRefusedBy, LeavesBy, PublishWorked, TellsFault};
 ghost use Rattle.commit_protocol.specs.Kinds.{commit_end, kind_of};
 ghost use Rattle.commit_protocol.specs.Meanings.{only_successor};
 ghost use Rattle.commit_protocol.specs.Metadata.{IsMetadata, table_rules};
+ghost use Rattle.commit_protocol.specs.Prepares.{GivesLast};
 ghost use Rattle.commit_protocol.specs.Promises.{StopsHavePrefix, StopsHaveFiles, Succeeds};
-ghost use Rattle.commit_protocol.specs.Verdicts.{IsNobody, IsCaused, IsExactly};
+ghost use Rattle.commit_protocol.specs.Rounds.{Asking, Committing, left_after};
+ghost use Rattle.commit_protocol.specs.Verdicts.{IsNobody, IsCausedOf, IsExactlyOf};
 ghost use Rattle.commit_protocol.specs.Written.{IsOn, IsWritten, IsUnwritten, PublishedLeaves, commit_error_by, stop_error, version_at};
 
 use crate::change::{Built, Change};
@@ -214,6 +216,16 @@ fn unreadable_limit(alloc: Global, place: Place) -> CommitErr
     }))
 }
 
+// takes the change's files out of the log where the version that names them was published
+fn settle_left(log: &mut Log, count: usize, ended: &Result<Committed, CommitErr>)
+    ensures left { log.new.left.items ≡ left_after ended.now count log.old.left.items }
+    ensures committed { log.new.committed.items ≡ log.old.committed.items }
+{
+    if let Ok(Committed::Published { .. }) = ended {
+        log.left.truncate(count);
+    }
+}
+
 fn attempt_on<M: Manners, S: Store<M>, I: Ids, X: Change<M>>(
     alloc: Global,
     store: &mut S,
@@ -230,18 +242,16 @@ fn attempt_on<M: Manners, S: Store<M>, I: Ids, X: Change<M>>(
     requires moment { now < 2 ^ 63 }
     requires start { WhereTold (S.past store.old) (InState (OpenStage (number_in table.now) at.place)) }
     requires read { WhereTold (S.past store.old) (InState (λ d. FileIs at.place at.text d.files)) }
-    ensures told { Since (S.past store.old) (S.past store.new) (AttemptLeaves table.now (M.allows (S.manners store.old)) (X.meanings change.old change.new) (Gives (I.given ids.old) (I.given ids.new)) now at result) }
+    ensures told { Asking S.past store.old store.new table.now (M.allows (S.manners store.old)) (X.meanings change.old change.new) (I.given ids.old) (I.given ids.new) now at result (S.halted store.new) log.old log.new }
     ensures manners { S.manners store.new ≡ S.manners store.old }
     ensures cause { Counts (kind_of (commit_end result)) (S.faults store.old) (S.faults store.new) }
     ensures later { S.faults store.old ≤ S.faults store.new }
     ensures halted { Marks table.now (kind_of (commit_end result)) (S.halted store.old) (S.halted store.new) (S.past store.new) }
     ensures committed { log.new.committed.items ≡ log.old.committed.items ++ (commit_end result).versions }
-    ensures left { LeavesBy (Gives (I.given ids.old) (I.given ids.new)) table.now (kind_of (commit_end result)) log.old.left.items log.new.left.items }
-    ensures works { AttemptWorked S.past store.old store.new table.now (X.meanings change.old change.new) (I.given ids.old) (I.given ids.new) now at result (S.halted store.new) log.old log.new }
-    ensures drawn { DrawsBy (commit_end result).versions (commit_end result).error (I.given ids.old) (I.given ids.new) }
-    ensures drawn_for { DrawsFor (X.meanings change.old change.new) (view at.meta) (I.given ids.old) (I.given ids.new) }
+    ensures left { IsLeftOf (X.meanings change.old change.new) (I.given ids.old) (I.given ids.new) table.now (commit_end result) log.old log.new }
+    ensures drawn { DrawsOf (X.meanings change.old change.new).draws (commit_end result).versions (commit_end result).error (I.given ids.old) (I.given ids.new) }
     ensures refused { IsRefusedBy (X.meanings change.old change.new) result }
-    ensures fault_place { TellsFault (X.meanings change.old change.new) (Gives (I.given ids.old) (I.given ids.new)) table.now result }
+    ensures fault_place { TellsFault (X.meanings change.old change.new) (GivesLast (X.meanings change.old change.new).draws (I.given ids.old) (I.given ids.new)) table.now result }
     ensures unopened { (e : TheOpenErr) → result ≡ Err (CommitErr.Open e) → ⊥ }
 {
     if !at.meta.has_version_limit() {
@@ -251,10 +261,13 @@ fn attempt_on<M: Manners, S: Store<M>, I: Ids, X: Change<M>>(
         return Err(CommitErr::Attempt(AttemptErr::Read(ReadErr::Memory)));
     };
     let base = parts.base;
+    let count = log.left.len();
     match change.attempt::<S, I>(alloc, store, ids, table, &base.place, parts.meta, now, log) {
-        Ok(Built::Next(meta)) => publish_built::<M, S, I>(
-            alloc, store, ids, now, table, base, meta, log,
-        ),
+        Ok(Built::Next(meta)) => {
+            let ended = publish_built::<M, S, I>(alloc, store, ids, now, table, base, meta, log);
+            settle_left(log, count, &ended);
+            ended
+        }
         Ok(Built::Same) => Ok(Committed::Same {
             version: base.version,
         }),
@@ -263,15 +276,17 @@ fn attempt_on<M: Manners, S: Store<M>, I: Ids, X: Change<M>>(
 }
 
 /// Commits a change: opens the table, asks the change, writes what it built under a name of its own, seals it, syncs the
-/// names, renames it to the next version and syncs again. Nothing is published, and no identifier drawn, where there is
-/// nothing to change. The one identifier that is drawn names the new metadata file. `Contended` comes where the next
-/// version was taken: the new file is then removed. After a store failure no further store call is made.
+/// names, renames it to the next version and syncs again. Nothing is published where there is nothing to change. Behind the
+/// identifiers that the change draws for itself one more is drawn, which names the new metadata file. `Contended` comes
+/// where the next version was taken: the new metadata file is then removed. After a store failure no further store call is
+/// made.
 ///
-/// `works` says by the kind of the end which steps were taken, all of them those of one publish of a successor, and which
-/// places the log's `left` has; `halted` which call failed. Where nobody else acts, the answer's exact cause stands in the
-/// files at the entry and in the change's meanings (`alone`), and no other answer has its there (`exactly`). Whatever a
-/// stop leaves, from a whole table on, is whole and has the table after a prefix of the commits (`prefix`, `files`), and a
-/// published version is a successor of the one before it (`successors`).
+/// `told` says by the end which steps were taken: first those of the change's attempt, as its meanings have them, and then
+/// those of one publish of what it built; and which places the log's `left` has: the change's files, until a version names
+/// them. `halted` says which call failed. Where nobody else acts, the answer's exact cause stands in the files at the entry
+/// and in the change's meanings (`alone`), and no other answer has its there (`exactly`). Whatever a stop leaves, from a
+/// whole table on, is whole and has the table after a prefix of the commits (`prefix`, `files`), and a published version is
+/// a successor of the one before it (`successors`).
 pub fn commit<M: Manners, S: Store<M>, I: Ids, X: Change<M>>(
     alloc: Global,
     store: &mut S,
@@ -284,21 +299,19 @@ pub fn commit<M: Manners, S: Store<M>, I: Ids, X: Change<M>>(
     requires mannered { IsMannered (table_rules table.now (M.allows (S.manners store.old))) }
     requires moment { now < 2 ^ 63 }
     requires start { WhereTold (S.past store.old) (InState (λ d. Creating d.pending)) }
-    ensures told { Since (S.past store.old) (S.past store.new) (CommitLeaves table.now (M.allows (S.manners store.old)) (X.meanings change.old change.new) (Gives (I.given ids.old) (I.given ids.new)) now result) }
+    ensures told { Committing S.past store.old store.new table.now (M.allows (S.manners store.old)) (X.meanings change.old change.new) (I.given ids.old) (I.given ids.new) now result (S.halted store.new) log.old log.new }
     ensures manners { S.manners store.new ≡ S.manners store.old }
     ensures cause { Counts (kind_of (commit_end result)) (S.faults store.old) (S.faults store.new) }
     ensures later { S.faults store.old ≤ S.faults store.new }
     ensures halted { Marks table.now (kind_of (commit_end result)) (S.halted store.old) (S.halted store.new) (S.past store.new) }
     ensures committed { log.new.committed.items ≡ log.old.committed.items ++ (commit_end result).versions }
-    ensures left { LeavesBy (Gives (I.given ids.old) (I.given ids.new)) table.now (kind_of (commit_end result)) log.old.left.items log.new.left.items }
-    ensures works { Worked S.past store.old store.new table.now (M.allows (S.manners store.old)) (X.meanings change.old change.new) (I.given ids.old) (I.given ids.new) now result (S.halted store.new) log.old log.new }
-    ensures drawn { DrawsBy (commit_end result).versions (commit_end result).error (I.given ids.old) (I.given ids.new) }
-    ensures drawn_for { Since (S.past store.old) (S.past store.new) (DrawsOn table.now (M.allows (S.manners store.old)) (X.meanings change.old change.new) (I.given ids.old) (I.given ids.new)) }
+    ensures left { IsLeftOf (X.meanings change.old change.new) (I.given ids.old) (I.given ids.new) table.now (commit_end result) log.old log.new }
+    ensures drawn { DrawsOf (X.meanings change.old change.new).draws (commit_end result).versions (commit_end result).error (I.given ids.old) (I.given ids.new) }
     ensures refused { IsRefusedBy (X.meanings change.old change.new) result }
-    ensures fault_place { TellsFault (X.meanings change.old change.new) (Gives (I.given ids.old) (I.given ids.new)) table.now result }
+    ensures fault_place { TellsFault (X.meanings change.old change.new) (GivesLast (X.meanings change.old change.new).draws (I.given ids.old) (I.given ids.new)) table.now result }
     ensures opening { (e : TheOpenErr) → result ≡ Err (CommitErr.Open e) → OpenFaultAt table.now e }
-    ensures alone { IsNobody (M.allows (S.manners store.old)) → Since (S.past store.old) (S.past store.new) (IsCaused (X.meanings change.old change.new) (Gives (I.given ids.old) (I.given ids.new)) table.now now result) }
-    ensures exactly { Since (S.past store.old) (S.past store.new) (IsExactly (M.allows (S.manners store.old)) (X.meanings change.old change.new) (Gives (I.given ids.old) (I.given ids.new)) table.now now result) }
+    ensures alone { IsNobody (M.allows (S.manners store.old)) → Since (S.past store.old) (S.past store.new) (IsCausedOf (X.meanings change.old change.new) (I.given ids.old) (I.given ids.new) table.now now result) }
+    ensures exactly { Since (S.past store.old) (S.past store.new) (IsExactlyOf (M.allows (S.manners store.old)) (X.meanings change.old change.new) (I.given ids.old) (I.given ids.new) table.now now result) }
     ensures prefix { Since (S.past store.old) (S.past store.new) (StopsHavePrefix table.now) }
     ensures files { Since (S.past store.old) (S.past store.new) (StopsHaveFiles table.now) }
     ensures successors { IsNobody (M.allows (S.manners store.old)) → Since (S.past store.old) (S.past store.new) (Succeeds (X.meanings change.old change.new).successor table.now now result) }

@@ -1,7 +1,7 @@
 //! The law of verdicts: where nobody else acts, no two answers of an opening or of a commit fit the same files. The
 //! functions here have empty bodies: their contracts are the law.
 ghost use Rattle.std.specs.Prelude.{ℕ, List, Option, Some};
-ghost use Rattle.ice_store.specs.Given.{Gives};
+ghost use Rattle.commit_protocol.specs.Prepares.{GivesLast};
 ghost use Rattle.commit_protocol.specs.Promises.{ReopensOpened};
 ghost use Rattle.commit_protocol.specs.Verdicts.{IsOneOpening, IsOneCommit, IsDecided};
 
@@ -17,7 +17,7 @@ pub fn one_opening(table: &Place)
 /// identifiers tells what it gives.
 pub fn one_commit<M: Manners, X: Change<M>>(table: &Place, change: &X)
     ensures { (now : ℕ) (before : Option (List ℕ)) (values : List ℕ) → IsDecided (X.meanings change.now change.now)
-        → IsOneCommit table.now now (X.meanings change.now change.now) (Gives before (Some values)) }
+        → IsOneCommit table.now now (X.meanings change.now change.now) (GivesLast (X.meanings change.now change.now).draws before (Some values)) }
 {}
 
 /// Reopening after a stop: what a stop of a steady history leaves is opened, in a history that begins with it, as the table

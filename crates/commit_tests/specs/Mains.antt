@@ -8,7 +8,7 @@ use Rattle.ice_store.specs.declared.faults.ReadErr.TheVariants.{Missing, Damaged
 use Rattle.commit_protocol.specs.declared.errors.Refusal.TheVariants.{UnknownSnapshot}
 use Rattle.commit_protocol.specs.declared.errors.AttemptErr.{AttemptErr}
 use Rattle.commit_protocol.specs.declared.errors.AttemptErr.TheVariants.{Refused, Conflict, NameTaken, Read}
-use Rattle.commit_protocol.specs.Meanings.{Meanings}
+use Rattle.commit_protocol.specs.Meanings.{Meanings, looking}
 
 -- the second metadata is the first with `main` at the snapshot, at some moment
 abbrev pub HasMain : ℤ → Data → Data → Type 0
@@ -27,4 +27,4 @@ RefusesMain id tree (Read Memory) = Unit {0}
 
 -- a change that sets `main` to a snapshot, also where it is there already
 abbrev pub sets_main : ℤ → Meanings
-sets_main id = record { successor = HasMain id; same = λ tree. ⊥; refuses = RefusesMain id; seen = λ tree. Unit {0} }
+sets_main id = looking (HasMain id) (λ tree. ⊥) (RefusesMain id) (λ tree. Unit {0})

@@ -2,14 +2,14 @@
 use Rattle.std.specs.Prelude.{ℕ}
 use Rattle.serde_json.specs.Data.{Data}
 use Rattle.commit_protocol.specs.Attempts.{MakesOf}
-use Rattle.commit_protocol.specs.Meanings.{Meanings}
+use Rattle.commit_protocol.specs.Meanings.{Meanings, looking}
 use Rattle.commit_protocol.specs.declared.change.Built.{Built}
 use Rattle.run_refs.specs.declared.goal.Goal.{Goal}
 use Rattle.run_refs.specs.Moves.{Moves, IsThere, RefusesMove}
 
--- a move of a ref, which has kept this of the base on which it was asked
+-- a move of a ref, which has kept this of the base on which it was asked; it only looks at the table
 abbrev pub moves_of : Goal → ℕ → (Data → Type 0) → Meanings
-moves_of goal now Seen = record { successor = Moves goal now; same = IsThere goal; refuses = RefusesMove goal; seen = Seen }
+moves_of goal now Seen = looking (Moves goal now) (IsThere goal) (RefusesMove goal) Seen
 
 -- what a move builds on a base, whatever it keeps of it
 abbrev pub IsMoved : Goal → ℕ → Data → Built → Type 0

@@ -3,7 +3,7 @@ use Rattle.std.specs.Prelude.{◌≡◌, ℕ, ℤ, List, Option, Ok, Err}
 use Rattle.serde_json.specs.Data.{Data}
 use Rattle.table_metadata.specs.Edits.{HasVersionLimit}
 use Rattle.table_metadata.specs.declared.cause.EditErr.TheVariants.{UnknownSnapshot as Lacks}
-use Rattle.commit_protocol.specs.Meanings.{Meanings, Procedure}
+use Rattle.commit_protocol.specs.Meanings.{Meanings, Procedure, looking}
 use Rattle.commit_protocol.specs.declared.errors.AttemptErr.{AttemptErr}
 use Rattle.commit_protocol.specs.declared.errors.AttemptErr.TheVariants.{Refused}
 use Rattle.commit_protocol.specs.declared.errors.Refusal.TheVariants.{UnknownSnapshot}
@@ -40,7 +40,7 @@ SaysListing given tree text = (rows : List Ancestor) × Lists given tree (Ok row
 
 -- a listing builds nothing, and refuses where the table lacks the snapshot
 abbrev pub listing_of : Option ℤ → Meanings
-listing_of given = record { successor = λ tree built. ⊥; same = HasListing given; refuses = RefusesListing given; seen = Unasked }
+listing_of given = looking (λ tree built. ⊥) (HasListing given) (RefusesListing given) Unasked
 
 -- a listing of ancestors
 abbrev pub list_procedure : Option ℤ → Procedure

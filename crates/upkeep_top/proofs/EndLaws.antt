@@ -2,6 +2,7 @@
 use Rattle.std.proofs.Common.{◌≡◌, inl, inr, ℕ, ℤ, List, [], Option, Some, None, Result, Ok, Err, refl, sym, ap, ◌∙◌, subst}
 use Rattle.serde_json.specs.Data.{Data}
 use Rattle.serde_json.specs.View.{view}
+use Rattle.ice_store.specs.Given.{Gives}
 use Rattle.ice_store.specs.Others.{WhereTold}
 use Rattle.ice_store.specs.Places.{Parts}
 use Rattle.ice_store.specs.Since.{Since}
@@ -12,6 +13,8 @@ use Rattle.ice_store.specs.declared.history.Held.{Held}
 use Rattle.ice_store.specs.declared.history.Past.{Past}
 use Rattle.ice_store.specs.declared.faults.ReadErr.TheVariants.{Missing, Damaged, Unsupported, StoreFault, Memory}
 use Rattle.table_metadata.specs.Edits.{HasVersionLimit}
+use Rattle.commit_history.specs.Mannered.{IsMannered}
+use Rattle.commit_history.proofs.Manners.{nobody_mannered}
 use Rattle.commit_publish.specs.Steps.{Anything}
 use Rattle.commit_versions.specs.declared.types.OpenErr.TheVariants as opens
 use Rattle.commit_protocol.specs.Attempts.{CommitLeaves}
@@ -20,6 +23,7 @@ use Rattle.commit_protocol.specs.Kinds.{commit_kind, commit_end, kind_of}
 use Rattle.commit_protocol.specs.Meanings.{Meanings}
 use Rattle.commit_protocol.specs.Metadata.{metadata_reading, table_rules}
 use Rattle.commit_protocol.specs.Promises.{Succeeds}
+use Rattle.commit_protocol.specs.Rounds.{CommitTells}
 use Rattle.commit_protocol.specs.Verdicts.{IsNobody, IsTable, CommitVerdict, EndVerdict, ErrorVerdict, IsCaused}
 use Rattle.commit_protocol.specs.declared.errors.AttemptErr.TheVariants as attempts
 use Rattle.commit_protocol.specs.declared.errors.CommitErr.{CommitErr}
@@ -27,13 +31,14 @@ use Rattle.commit_protocol.specs.declared.errors.CommitErr.TheVariants.{Open, At
 use Rattle.commit_protocol.specs.declared.errors.Committed.{Committed}
 use Rattle.commit_protocol.specs.declared.errors.Committed.TheVariants.{Same, Published}
 use Rattle.commit_protocol.specs.declared.errors.Refusal.{Refusal}
+use Rattle.commit_protocol.proofs.PlainLaws.{commit_plain}
 use Rattle.commit_protocol.proofs.QuietLaws.{unmoved}
 use Rattle.commit_protocol.proofs.StepLaws.{commit_steps}
 use Rattle.commit_protocol.proofs.VerdictLaws.{opening_answered}
 use Rattle.commit_protocol.proofs.WorkLaws.{works_turned}
 use Rattle.run_answers.specs.declared.status.Status.{Status}
 use Rattle.run_refs.specs.Meanings.{moves_of}
-use Rattle.run_refs.specs.Moves.{HasSeen}
+use Rattle.run_refs.specs.Moves.{HasSeen, IsThere, Moves, RefusesMove}
 use Rattle.run_refs.specs.Procedures.{Unasked, move_procedure}
 use Rattle.run_refs.specs.Reports.{move_report}
 use Rattle.run_refs.specs.declared.goal.Goal.{Goal}
@@ -55,6 +60,20 @@ since_both (Some old) a P Q s t =
     let same : t.now ≡ s.now = cc (somes) in
     record { now = s.now; is = s.is; holds = (s.holds, subst (λ (x : Past). Q old x) same t.holds) }
 
+-- nobody has manners
+pub alone : (table : Parts) → IsMannered (table_rules table Nobody)
+alone table = nobody_mannered (metadata_reading table)
+
+-- what a commit of a move tells, which takes no step but those of its publish
+pub move_plain : (table : Parts) (goal : Goal) (moment : ℕ) (Seen : Data → Type 0) (given given' : Option (List ℕ)) (now : ℕ) (result : Result Committed CommitErr) (mark : Option Failure) (had has : List Parts) (o a : Option Past)
+    → Since o a (CommitTells table Nobody (moves_of goal moment Seen) given given' now result mark had has)
+    → Since o a (λ old new. CommitLeaves table Nobody (moves_of goal moment Seen) (Gives given given') now result old new × CommitWorks table Nobody (moves_of goal moment Seen) (Gives given given') now result mark had has old new)
+move_plain table goal moment Seen given given' now result mark had has o a told =
+    let meanings = moves_of goal moment Seen in
+    let Drawn = Gives given given' in
+    since_turned o a (CommitTells table Nobody meanings given given' now result mark had has) (λ old new. CommitLeaves table Nobody meanings Drawn now result old new × CommitWorks table Nobody meanings Drawn now result mark had has old new) told
+    (λ old new h. commit_plain table Nobody (alone table) (Moves goal moment) (IsThere goal) (RefusesMove goal) Seen (λ tree place no. absurd no) given given' now result mark had has old new h)
+
 -- What a commit tells where nobody else acts.
 
 -- a commit of a change with these meanings, between two moments
@@ -68,7 +87,7 @@ pub record Commits (table : Parts) (meanings : Meanings) (Drawn : ℕ → Type 0
 module _ (table : Parts) (meanings : Meanings) (Drawn : ℕ → Type 0) (now : ℕ) where
   -- the same, and nothing is said of what was kept of a base
   abbrev pub unasked : Meanings
-  unasked = record { successor = meanings.successor; same = meanings.same; refuses = meanings.refuses; seen = Unasked }
+  unasked = record meanings { seen = Unasked }
 
   abbrev pub Leaves : Result Committed CommitErr → Past → Past → Type 0
   Leaves = CommitLeaves table Nobody meanings Drawn now

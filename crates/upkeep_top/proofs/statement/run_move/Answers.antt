@@ -6,6 +6,7 @@ use Rattle.ice_store.proofs.SinceLaws.{since_start, since_turned}
 use Rattle.ice_store.specs.declared.faults.ReadErr.TheVariants.{Memory}
 use Rattle.ice_store.specs.declared.history.Past.{Past}
 use Rattle.commit_protocol.specs.Attempts.{CommitLeaves}
+use Rattle.commit_protocol.specs.Ends.{CommitWorks}
 use Rattle.commit_protocol.specs.Kinds.{End, commit_end}
 use Rattle.commit_protocol.specs.declared.errors.AttemptErr.TheVariants.{Read, Refused}
 use Rattle.commit_protocol.specs.declared.errors.CommitErr.{CommitErr}
@@ -20,7 +21,8 @@ use Rattle.upkeep_top.specs.Points.{at, moment, noted, tells}
 use Rattle.upkeep_top.specs.Statements.{Ends, Did, ReportedBy}
 use Rattle.upkeep_top.specs.declared.task.Task.{Task}
 use Rattle.upkeep_top.specs.declared.task.Work.TheVariants.{Move}
-use Rattle.upkeep_top.proofs.EndLaws.{Commits, answers_done, did_move, error_of, move_fault, report_move, tells_none}
+use Rattle.commit_protocol.proofs.PlainLaws.{plain_draws, plain_left}
+use Rattle.upkeep_top.proofs.EndLaws.{Commits, answers_done, did_move, error_of, move_fault, move_plain, report_move, tells_none}
 use Rattle.upkeep_top.proofs.ListLaws.{did_nothing, ends_of, stops}
 use Rattle.upkeep_top.proofs.StatusLaws.{not_output}
 use Rattle.upkeep_top.proofs.statement.run_move.Goals as goal
@@ -76,8 +78,12 @@ returns-in-Ok-commit g c =
     let end : End = commit_end answer in
     let e = c.in-Ok-commit.ensures in
     let Seen : Data → Type 0 = λ tree. (s.goal ≡ r.goal) × HasSeen r.goal tree s.previous s.id in
+    let Leaves : Past → Past → Type 0 = CommitLeaves w.table (λ past step. ⊥) (moves_of r.goal r.now Seen) Drawn now answer in
+    let Does : Past → Past → Type 0 = CommitWorks w.table (λ past step. ⊥) (moves_of r.goal r.now Seen) Drawn now answer q.halted p.left q.left in
+    let Both : Past → Past → Type 0 = λ old new. Leaves old new × Does old new in
+    let both = move_plain w.table r.goal r.now Seen p.identifiers q.identifiers now answer q.halted p.left q.left p.past q.past e.told in
     let Made : ℕ → Type 0 = λ m. Commits w.table (moves_of r.goal m Seen) Drawn now answer q.halted p.left q.left p.past q.past in
-    let commits = subst Made c.new-change.ensures.now (record { told = e.told; works = e.works; caused = e.alone (λ past step h. h); succeeds = e.successors (λ past step h. h); refused = e.refused }) in
+    let commits = subst Made c.new-change.ensures.now (record { told = since_turned p.past q.past Both Leaves both (λ old new h. h.0); works = since_turned p.past q.past Both Does both (λ old new h. h.1); caused = e.alone (λ past step h. h); succeeds = e.successors (λ past step h. h); refused = e.refused }) in
     let ends : Ends made status p q = record {
       now = now;
       moment = c.now_ms-now.ensures.given;
@@ -86,8 +92,8 @@ returns-in-Ok-commit g c =
       did = did_move w.word w.table r.goal now Drawn Seen answer q.halted p.left q.left p.past q.past commits c.requires.start;
       report = report_move w.word w.table r.goal now Drawn Seen s.goal s.previous s.id (λ tree seen. seen) status p.output q.output done p.past q.past (c.put_report.ensures.reports (move_report s.goal s.previous s.id) c.report.ensures) commits.told;
       committed = e.committed;
-      left = e.left;
-      drawn = e.drawn;
+      left = plain_left w.table p.left q.left Drawn answer e.left;
+      drawn = plain_draws p.identifiers q.identifiers answer e.drawn;
       faults = e.cause;
       later = e.later;
       halted = e.halted;
@@ -116,8 +122,12 @@ returns g c =
     let answer : Result Committed CommitErr = Err error in
     let e = c.in-Err.ensures in
     let Seen : Data → Type 0 = λ tree. (s.goal ≡ r.goal) × HasSeen r.goal tree s.previous s.id in
+    let Leaves : Past → Past → Type 0 = CommitLeaves w.table (λ past step. ⊥) (moves_of r.goal r.now Seen) Drawn now answer in
+    let Does : Past → Past → Type 0 = CommitWorks w.table (λ past step. ⊥) (moves_of r.goal r.now Seen) Drawn now answer q.halted p.left q.left in
+    let Both : Past → Past → Type 0 = λ old new. Leaves old new × Does old new in
+    let both = move_plain w.table r.goal r.now Seen p.identifiers q.identifiers now answer q.halted p.left q.left p.past q.past e.told in
     let Made : ℕ → Type 0 = λ m. Commits w.table (moves_of r.goal m Seen) Drawn now answer q.halted p.left q.left p.past q.past in
-    let commits = subst Made c.new-change.ensures.now (record { told = e.told; works = e.works; caused = e.alone (λ past step h. h); succeeds = e.successors (λ past step h. h); refused = e.refused }) in
+    let commits = subst Made c.new-change.ensures.now (record { told = since_turned p.past q.past Both Leaves both (λ old new h. h.0); works = since_turned p.past q.past Both Does both (λ old new h. h.1); caused = e.alone (λ past step h. h); succeeds = e.successors (λ past step h. h); refused = e.refused }) in
     let Told : Past → Past → Type 0 = CommitLeaves w.table (λ past step. ⊥) (moves_of r.goal now Seen) Drawn now (Err error) in
     let ends : Ends made status p q = record {
       now = now;
@@ -127,8 +137,8 @@ returns g c =
       did = did_move w.word w.table r.goal now Drawn Seen answer q.halted p.left q.left p.past q.past commits c.requires.start;
       report = since_turned p.past q.past Told (λ old new. p.output ≡ p.output) commits.told (λ old new h. refl);
       committed = e.committed;
-      left = e.left;
-      drawn = e.drawn;
+      left = plain_left w.table p.left q.left Drawn answer e.left;
+      drawn = plain_draws p.identifiers q.identifiers answer e.drawn;
       faults = e.cause;
       later = e.later;
       halted = e.halted;

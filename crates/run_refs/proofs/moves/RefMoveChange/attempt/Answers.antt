@@ -1,27 +1,26 @@
-use Rattle.std.proofs.Common.{[]}
-use Rattle.ice_store.proofs.SinceLaws.{since_start}
-use Rattle.commit_history.specs.Runs.{Ran}
-use Rattle.commit_history.specs.Versions.{number_in}
-use Rattle.commit_history.proofs.Running.{begins}
-use Rattle.commit_history.proofs.Numbering.{numbering}
-use Rattle.commit_publish.specs.Stages.{InState}
-use Rattle.commit_publish.specs.Steps.{Exactly}
-use Rattle.commit_versions.specs.Opening.{OpenStage}
-use Rattle.commit_protocol.specs.Metadata.{metadata_local, table_rules}
+use Rattle.std.proofs.Common.{sym, append-nil}
+use Rattle.commit_protocol.proofs.RoundLaws.{met_nothing, told_nothing}
+use Rattle.run_refs.specs.Moves.{HasSeen, IsThere, Moves, RefusesMove}
 use Rattle.run_refs.proofs.moves.RefMoveChange.attempt.Goals as goal
 
 pub returns-in_err-moved-clause-told : goal.returns-in_err-moved-clause-told
 returns-in_err-moved-clause-told g c =
-    let t = c.args._table.now in
-    let KO = InState (OpenStage (number_in t) c.args._base.now) in
-    let allows = g.M.Manners.allows (g.S.Store.manners c.args._store.now) in
-    since_start (g.S.Store.past c.args._store.now) KO (Ran (table_rules t allows) (Exactly []) KO) c.requires.start
-    (λ old here. begins (table_rules t allows) (numbering t) (metadata_local t) KO old here)
+    let r = c.args.self.now in
+    told_nothing c.args._table.now (g.M.Manners.allows (g.S.Store.manners c.args._store.now)) (Moves r.goal r.now) (IsThere r.goal) (RefusesMove r.goal) _ _ _ c.args._base.now (g.S.Store.halted c.args._store.now) (g.S.Store.past c.args._store.now) c.requires.start
 
 pub returns-clause-told : goal.returns-clause-told
 returns-clause-told g c =
-    let t = c.args._table.now in
-    let KO = InState (OpenStage (number_in t) c.args._base.now) in
-    let allows = g.M.Manners.allows (g.S.Store.manners c.args._store.now) in
-    since_start (g.S.Store.past c.args._store.now) KO (Ran (table_rules t allows) (Exactly []) KO) c.requires.start
-    (λ old here. begins (table_rules t allows) (numbering t) (metadata_local t) KO old here)
+    let r = c.args.self.now in
+    told_nothing c.args._table.now (g.M.Manners.allows (g.S.Store.manners c.args._store.now)) (Moves r.goal r.now) (IsThere r.goal) (RefusesMove r.goal) _ _ _ c.args._base.now (g.S.Store.halted c.args._store.now) (g.S.Store.past c.args._store.now) c.requires.start
+
+pub returns-in_err-moved-clause-met : goal.returns-in_err-moved-clause-met
+returns-in_err-moved-clause-met g c = met_nothing (g.S.Store.past c.args._store.now)
+
+pub returns-clause-met : goal.returns-clause-met
+returns-clause-met g c = met_nothing (g.S.Store.past c.args._store.now)
+
+pub returns-in_err-moved-clause-left : goal.returns-in_err-moved-clause-left
+returns-in_err-moved-clause-left g c = sym (append-nil c.args._log.now.left.items)
+
+pub returns-clause-left : goal.returns-clause-left
+returns-clause-left g c = sym (append-nil c.args._log.now.left.items)
