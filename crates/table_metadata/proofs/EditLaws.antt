@@ -31,6 +31,7 @@ use Rattle.metadata_view.specs.declared.types.Snapshot.{Snapshot}
 use Rattle.metadata_form.proofs.FormLaws.{no-parts, no-both, no-within, or-true, record-parts, record-whole, record-set, fields-drop, first-field, items-push, items-drop, items-in, array-items, members-in, members-put, members-found, found-value, rules-set, rules-drop, first-rule, moment_i64}
 use Rattle.metadata_view.proofs.SoundLaws.{IsSound}
 use Rattle.metadata_view.specs.Index.{first_double}
+use Rattle.metadata_snapshots.proofs.FieldLaws.{fits-id, fits-moment, is-moment, is_text, object-set, snapshots-in, whole-parts, whole-on, refs-same}
 
 -- ---- fields that stay
 
@@ -170,18 +171,6 @@ unfolding moved_ref new_branch
 id-moved id None e = ap (λ i. unwrap_or i (pos 0)) e
 id-moved id (Some r) e = ap (λ x. unwrap_or (option_and_then signed x) (pos 0)) (get-set (codes "snapshot-id") (number (of_integer id)) r) ∙ ap (λ i. unwrap_or i (pos 0)) e
 
-fits-id : (id : ℤ) → as_i64 (of_integer id) ≡ Some id → misfit Long (number (of_integer id)) ≡ None
-unfolding misfit
-fits-id id e = ap (λ o. itself_unless (is_some o)) e
-
-fits-moment : (t : ℕ) → t < 2 ^ 63 → misfit Long (number (unsigned t)) ≡ None
-unfolding misfit
-fits-moment t h = ap (λ o. itself_unless (is_some o)) (moment_i64 t h)
-
-is-moment : (t : ℕ) → t < 2 ^ 63 → misfit Moment (number (unsigned t)) ≡ None
-unfolding misfit
-is-moment t h = ap (λ o. itself_unless (is_natural_in o)) (moment_i64 t h)
-
 branch_type : misfit RefType (string (codes "branch")) ≡ None
 unfolding misfit is_ref_type is_branch_text
 branch_type = refl
@@ -220,13 +209,6 @@ get-refs name id ms d =
     get-if (is_main name) (codes "refs") _ _ _ (get-current_other (codes "refs") id _ _ refl refl ∙ moved) moved
 
 -- ---- each ref names a snapshot, and `main` the current one
-
-whole-parts : (b : Bool) (o : Option (List ℕ)) (path : List ℕ) → cond b o (Some path) ≡ None → (b ≡ true) × (o ≡ None)
-whole-parts true o path e = (refl, e)
-whole-parts false o path e = absurd (cc)
-
-whole-on : (b : Bool) (o : Option (List ℕ)) (path : List ℕ) → b ≡ true → o ≡ None → cond b o (Some path) ≡ None
-whole-on b o path p q = ap (λ x. cond x o (Some path)) p ∙ q
 
 broken-put_at : (ss : List Snapshot) (b : Bool) (o : Ordering) (x y z : Members) → first_broken ss b x ≡ None → (o ≡ Equal → first_broken ss b y ≡ None) → first_broken ss b z ≡ None → first_broken ss b (match_ordering o x y z) ≡ None
 broken-put_at ss b Less x y z p q r = p
@@ -339,10 +321,6 @@ log-in : (d : Data) → rules_fault metadata_rules d ≡ None → items_fault (r
 unfolding rule_fault
 log-in d old = items-in (record_fault snapshot_log_fields) (get (codes "snapshot-log") d) (no-within (in_member (codes "snapshot-log")) _ (first-rule rule.SnapshotLog (drop 17 metadata_rules) d (rules-drop 16 metadata_rules d old)))
 
-snapshots-in : (d : Data) → rules_fault metadata_rules d ≡ None → items_fault (record_fault snapshot_fields) 0 (items_at (codes "snapshots") d) ≡ None
-unfolding rule_fault
-snapshots-in d old = items-in (record_fault snapshot_fields) (get (codes "snapshots") d) (no-within (in_member (codes "snapshots")) _ (first-rule rule.Snapshots (drop 18 metadata_rules) d (rules-drop 17 metadata_rules d old)))
-
 files-in : (d : Data) → rules_fault metadata_rules d ≡ None → items_fault (record_fault metadata_log_fields) 0 (items_at (codes "metadata-log") d) ≡ None
 unfolding rule_fault
 files-in d old = items-in (record_fault metadata_log_fields) (get (codes "metadata-log") d) (no-within (in_member (codes "metadata-log")) _ (first-rule rule.MetadataLog (drop 11 metadata_rules) d (rules-drop 10 metadata_rules d old)))
@@ -421,10 +399,6 @@ updated-bound : (d : Data) → rules_fault metadata_rules d ≡ None → updated
 unfolding rule_fault field_fault
 updated-bound d h = moment-bound (get (codes "last-updated-ms") d) (no-within (in_member (codes "last-updated-ms")) _ (first-rule (rule.Holds (field Key.LastUpdatedMs Required Moment)) (drop 9 metadata_rules) d (rules-drop 8 metadata_rules d h)))
 
-object-set : (k : List ℕ) (v d : Data) → is_some (as_object (set k v d)) ≡ true
-unfolding set
-object-set k v d = refl
-
 object-with_ref : (name : List ℕ) (id : ℤ) (ms : ℕ) (d : Data) → (b : Bool) → is_main name ≡ b → is_some (as_object (with_ref name id ms d)) ≡ true
 unfolding with_moved_ref with_current add
 object-with_ref name id ms d true e = ap (λ (x : Data). is_some (as_object x)) (main-moves name id ms d e) ∙ object-set (codes "snapshot-log") _ _
@@ -463,10 +437,6 @@ get-next_updated f most ms d = get-set (codes "last-updated-ms") _ _
 get-next_log : (f : List ℕ) (most ms : ℕ) (d : Data) → get (codes "metadata-log") (next_keeping most f ms d) ≡ Some (array (items_of (last most (items_at (codes "metadata-log") d ++ metadata_log_item f (updated_of d) ∷ []))))
 unfolding next_keeping with_previous
 get-next_log f most ms d = get-set_other (codes "metadata-log") (codes "last-updated-ms") _ _ refl ∙ get-add_within most (codes "metadata-log") _ d
-
-is_text : (f : List ℕ) → misfit Text (string f) ≡ None
-unfolding misfit
-is_text f = refl
 
 file-item : (f : List ℕ) (t : ℕ) → t < 2 ^ 63 → fields_fault metadata_log_fields (metadata_log_item f t) ≡ None
 unfolding fields_fault field_fault metadata_log_item
@@ -509,14 +479,6 @@ rules-next f most ms d before early old = rules-updated (moment_of ms d) _ early
 object-next : (f : List ℕ) (most ms : ℕ) (d : Data) → is_some (as_object (next_keeping most f ms d)) ≡ true
 unfolding next_keeping
 object-next f most ms d = object-set (codes "last-updated-ms") _ _
-
-abbrev refs_at : List Snapshot → Option Data → Option Data → Option ℤ → Option (List ℕ)
-refs_at ss refs main current = option_or (current_fault ss main current) (option_map (in_member (codes "refs")) (first_broken ss (main_agrees main current) (members_in refs)))
-
-refs-same : (ss : List Snapshot) (x d : Data) → get (codes "refs") x ≡ get (codes "refs") d → main_ref x ≡ main_ref d → current_of x ≡ current_of d → ref_fault ss x ≡ ref_fault ss d
-unfolding ref_fault
-refs-same ss x d refs main current =
-    ap (λ o. refs_at ss o (main_ref x) (current_of x)) refs ∙ ap (λ o. refs_at ss (get (codes "refs") d) o (current_of x)) main ∙ ap (refs_at ss (get (codes "refs") d) (main_ref d)) current
 
 pub sound-next : (f : List ℕ) (most ms : ℕ) (d : Data) → ms < 2 ^ 63 → IsSound d → depth d ≤ 127 → IsSound (next_keeping most f ms d)
 sound-next f most ms d early s shallow =

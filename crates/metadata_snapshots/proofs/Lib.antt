@@ -1,0 +1,4 @@
+pub mod AddedLaws
+pub mod FieldLaws
+pub mod ListLaws
+pub mod SetLaws
