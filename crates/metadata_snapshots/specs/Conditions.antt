@@ -39,6 +39,11 @@ abbrev pub IsKnownParent : List Snapshot → Option ℤ → Type 0
 IsKnownParent ss None = Unit {0}
 IsKnownParent ss (Some id) = IsSome (snapshot_with ss id)
 
+-- there is no such snapshot, or it isn't one of these
+abbrev pub IsKept : List ℤ → Option ℤ → Type 0
+IsKept ids None = Unit {0}
+IsKept ids (Some id) = has_id id ids ≡ false
+
 -- each ref that stays names a snapshot that stays
 abbrev pub leaves_whole : List ℤ → List (List ℕ) → List Ref → Bool
 leaves_whole ids names [] = true
