@@ -26,7 +26,10 @@ use Rattle.metadata_form.specs.Fault.{unless_2, list_fault}
 use Rattle.metadata_view.specs.View.{updated_of, current_of, snapshots_of, snapshots_in, snapshot_of, main_ref, new_branch}
 use Rattle.metadata_view.specs.Walk.{snapshot_with, first_return}
 use Rattle.metadata_view.specs.Links.{is_main, main_agrees, current_fault, is_whole_ref, first_broken, refs_fault, ref_fault}
-use Rattle.table_metadata.specs.Edits.{moved_ref, with_moved_ref, snapshot_log_item, with_current, moment_of, with_ref, metadata_log_item, with_previous, next_keeping}
+use Rattle.metadata_snapshots.specs.Conditions.{IsNewId, IsKnownParent}
+use Rattle.metadata_snapshots.specs.Edits.{with_listed}
+use Rattle.metadata_snapshots.proofs.AddedLaws.{FitsFields, get-listed_other, snapshots-listed, known-listed, sound-listed, shallow-listed}
+use Rattle.table_metadata.specs.Edits.{with_snapshot, moved_ref, with_moved_ref, snapshot_log_item, with_current, moment_of, with_ref, metadata_log_item, with_previous, next_keeping}
 use Rattle.metadata_view.specs.declared.types.Snapshot.{Snapshot}
 use Rattle.metadata_form.proofs.FormLaws.{no-parts, no-both, no-within, or-true, record-parts, record-whole, record-set, fields-drop, first-field, items-push, items-drop, items-in, array-items, members-in, members-put, members-found, found-value, rules-set, rules-drop, first-rule, moment_i64}
 use Rattle.metadata_view.proofs.SoundLaws.{IsSound}
@@ -504,3 +507,24 @@ sound-next f most ms d early s shallow =
 
 pub shallow-next : (f : List ℕ) (most ms : ℕ) (d : Data) → has_float d ≡ false → depth d ≤ 127 → depth (next_keeping most f ms d) ≤ 127
 shallow-next f most ms d e shallow = (tame-next 124 most f ms d (e, shallow)).1
+
+-- ---- a new snapshot
+
+module _ (s : Snapshot) (ts : List (List ℕ × List ℕ)) (ms : ℕ) (d : Data) where
+  pub stays-with_snapshot : (q : List ℕ) → q ≢ codes "snapshots" → q ≢ codes "last-sequence-number" → q ≢ codes "refs" → q ≢ codes "current-snapshot-id" → q ≢ codes "snapshot-log" → get q (with_snapshot s ts ms d) ≡ get q d
+  unfolding with_snapshot
+  stays-with_snapshot q n l r c h = stays-with_ref (codes "main") s.id ms (with_listed s ts d) q r c h ∙ get-listed_other q s ts d (differ _ _ n) (differ _ _ l)
+
+  module _ (fits : FitsFields s) where
+    pub snapshots-with_snapshot : snapshots_of (with_snapshot s ts ms d) ≡ snapshots_of d ++ s ∷ []
+    unfolding with_snapshot
+    snapshots-with_snapshot = ap snapshots_in (get-with_ref_other (codes "snapshots") (codes "main") s.id ms (with_listed s ts d) refl refl refl) ∙ snapshots-listed s ts d fits
+
+    module _ (new : IsNewId (snapshots_of d) s.id) (known : IsKnownParent (snapshots_of d) s.parent) (sound : IsSound d) (shallow : depth d ≤ 127) where
+      pub sound-with_snapshot : ms < 2 ^ 63 → IsSound (with_snapshot s ts ms d)
+      unfolding with_snapshot
+      sound-with_snapshot early = sound-with_ref (codes "main") s.id ms (with_listed s ts d) fits.id (known-listed s ts d fits) early (sound-listed s ts d fits new known sound shallow) (shallow-listed s ts d sound shallow)
+
+      pub shallow-with_snapshot : depth (with_snapshot s ts ms d) ≤ 127
+      unfolding with_snapshot
+      shallow-with_snapshot = shallow-with_ref (codes "main") s.id ms (with_listed s ts d) (sound-listed s ts d fits new known sound shallow).no_float (shallow-listed s ts d sound shallow)

@@ -11,7 +11,7 @@ ghost use Rattle.metadata_view.specs.Fault.{fault_of};
 ghost use Rattle.metadata_view.specs.View.{value_in, uuid_of, location_of, last_sequence_of, updated_of, current_of, current_schema_id_of, default_spec_id_of, snapshots_of, refs_of, ref_with, statistics_of, property_of};
 ghost use Rattle.table_metadata.specs.Spelling.{Spells, IsRefused, IsReadAs, IsUnknown, IsFaultOf};
 ghost use Rattle.metadata_snapshots.specs.Edits.{without_snapshots, has_name};
-ghost use Rattle.metadata_snapshots.specs.Conditions.{IsTextual, IsNewId, IsKnownParent, IsIntOrNone, has_child, leaves_whole};
+ghost use Rattle.metadata_snapshots.specs.Conditions.{IsTextual, IsNewId, IsKnownParent, IsIntOrNone, IsKept, has_child, leaves_whole};
 ghost use Rattle.table_metadata.specs.Edits.{with_ref, with_snapshot, next_version, next_keeping, version_limit, kept_versions, HasVersionLimit};
 ghost use Rattle.metadata_view.specs.Walk.{IsWalk, IsAncestor, snapshot_with};
 ghost use Rattle.table_metadata.specs.declared.cause.MetaErr.TheVariants.{Bad};
@@ -214,6 +214,7 @@ fn without_snapshots(
     requires sound { fault_of (view tree) ≡ None }
     requires shallow { depth (view tree) ≤ max_depth }
     requires main { has_name refs.now (codes "main") ≡ false }
+    requires current { IsKept ids.now (current_of (view tree)) }
     requires whole { leaves_whole ids.now refs.now (refs_of (view tree)) ≡ true }
     ensures { IfOk result (λ m. view m ≡ without_snapshots ids.now refs.now (view tree)) }
 {
@@ -462,6 +463,7 @@ impl Meta {
         refs: &TextList,
     ) -> Result<Meta, AllocError>
         requires main { has_name refs.now (codes "main") ≡ false }
+        requires current { IsKept ids.now (current_of (view self.now)) }
         requires whole { leaves_whole ids.now refs.now (refs_of (view self.now)) ≡ true }
         ensures ok { IfOk result (λ m. view m ≡ without_snapshots ids.now refs.now (view self.now)) }
         ensures stays { IfOk result (λ m. (key : List ℕ) → key ≢ codes "snapshots" → key ≢ codes "refs"
@@ -480,6 +482,7 @@ impl Meta {
         refs: &TextList,
     ) -> Result<Meta, AllocError>
         requires main { has_name refs.now (codes "main") ≡ false }
+        requires current { IsKept ids.now (current_of (view self)) }
         requires whole { leaves_whole ids.now refs.now (refs_of (view self)) ≡ true }
         ensures { IfOk result (λ m. view m ≡ without_snapshots ids.now refs.now (view self)) }
     {
