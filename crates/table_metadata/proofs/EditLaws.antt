@@ -1,5 +1,5 @@
 -- What the edits keep: metadata stays well-formed.
-use Rattle.std.proofs.Common.{◌≡◌, ◌≢◌, ℕ, suc, ℤ, pos, negsuc, ◌≤◌, ◌<◌, ◌-◌, ◌^◌, ◌++◌, length, drop, List, [], ◌∷◌, Bool, true, false, not, ◌&&◌, ◌||◌, cond, codes, Option, Some, None, is_some, option_map, option_and_then, map, unwrap_or, refl, sym, ap, ◌∙◌, subst, arith, true≢false, bytes_eq, Ordering, Less, Equal, Greater, is_eq}
+use Rattle.std.proofs.Common.{◌≡◌, ◌≢◌, ℕ, suc, ℤ, pos, negsuc, ◌≤◌, ◌<◌, ◌-◌, ◌^◌, ◌++◌, length, drop, List, [], ◌∷◌, Bool, true, false, not, ◌&&◌, ◌||◌, cond, codes, Option, Some, None, is_some, option_map, option_and_then, map, unwrap_or, FitsSigned, w64, refl, sym, ap, ◌∙◌, subst, arith, true≢false, bytes_eq, Ordering, Less, Equal, Greater, is_eq}
 use Rattle.std.specs.Prelude.{nat_lt}
 use Rattle.std.specs.Option.{option_or}
 use Rattle.std.specs.Ordering.{int_eq, nat_cmp, match_ordering}
@@ -27,11 +27,12 @@ use Rattle.metadata_view.specs.View.{updated_of, current_of, snapshots_of, snaps
 use Rattle.metadata_view.specs.Walk.{snapshot_with, first_return}
 use Rattle.metadata_view.specs.Links.{is_main, main_agrees, current_fault, is_whole_ref, first_broken, refs_fault, ref_fault}
 use Rattle.metadata_snapshots.specs.Conditions.{IsNewId, IsKnownParent}
-use Rattle.metadata_snapshots.specs.Edits.{with_listed}
+use Rattle.metadata_snapshots.specs.Edits.{with_listed, without_snapshots, is_of, has_name}
+use Rattle.metadata_snapshots.proofs.TakenLaws.{get-these_other}
 use Rattle.metadata_snapshots.proofs.AddedLaws.{FitsFields, get-listed_other, snapshots-listed, known-listed, sound-listed, shallow-listed}
 use Rattle.table_metadata.specs.Edits.{with_snapshot, moved_ref, with_moved_ref, snapshot_log_item, with_current, moment_of, with_ref, metadata_log_item, with_previous, next_keeping}
 use Rattle.metadata_view.specs.declared.types.Snapshot.{Snapshot}
-use Rattle.metadata_form.proofs.FormLaws.{no-parts, no-both, no-within, or-true, record-parts, record-whole, record-set, fields-drop, first-field, items-push, items-drop, items-in, array-items, members-in, members-put, members-found, found-value, rules-set, rules-drop, first-rule, moment_i64}
+use Rattle.metadata_form.proofs.FormLaws.{no-parts, no-both, no-within, or-true, record-parts, record-whole, record-set, fields-drop, first-field, items-push, items-drop, items-in, array-items, members-in, members-put, members-found, found-value, rules-set, rules-drop, first-rule, moment_i64, fits_i64}
 use Rattle.metadata_view.proofs.SoundLaws.{IsSound}
 use Rattle.metadata_view.specs.Index.{first_double}
 use Rattle.metadata_snapshots.proofs.FieldLaws.{fits-id, fits-moment, is-moment, is_text, object-set, snapshots-in, whole-parts, whole-on, refs-same}
@@ -528,3 +529,14 @@ module _ (s : Snapshot) (ts : List (List ℕ × List ℕ)) (ms : ℕ) (d : Data)
       pub shallow-with_snapshot : depth (with_snapshot s ts ms d) ≤ 127
       unfolding with_snapshot
       shallow-with_snapshot = shallow-with_ref (codes "main") s.id ms (with_listed s ts d) (sound-listed s ts d fits new known sound shallow).no_float (shallow-listed s ts d sound shallow)
+
+-- a number that is there fits, where it fits with 0 in place of none
+pub fits-in : (o : Option ℤ) → FitsSigned w64 (unwrap_or o (pos 0)) → (z : ℤ) → o ≡ Some z → as_i64 (of_integer z) ≡ Some z
+fits-in None h z e = absurd (cc)
+fits-in (Some y) h z e = let same : y ≡ z = cc in subst (λ (x : ℤ). as_i64 (of_integer x) ≡ Some x) same (fits_i64 y h)
+
+-- ---- snapshots that go
+
+pub stays-without : (ids : List ℤ) (names : List (List ℕ)) (d : Data) (q : List ℕ) → q ≢ codes "snapshots" → q ≢ codes "refs" → q ≢ codes "statistics" → q ≢ codes "partition-statistics" → q ≢ codes "snapshot-log" → get q (without_snapshots ids names d) ≡ get q d
+unfolding without_snapshots
+stays-without ids names d q n r s p l = get-these_other (is_of ids) (has_name names) d q (differ _ _ n) (differ _ _ r) (differ _ _ s) (differ _ _ p) (differ _ _ l)

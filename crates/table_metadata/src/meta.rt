@@ -1,5 +1,6 @@
 //! Metadata: its tree, with a typed view beside it.
-ghost use Rattle.std.specs.Prelude.{◌≡◌, ◌≢◌, ◌≤◌, ◌<◌, ◌^◌, ◌↔◌, ◌++◌, ◌∷◌, [], false, true, Some, None, List, ℕ, IfOk, IfErr, OnOk, IsUtf8, IsSome, IsTrue, is_some, option_map, codes};
+ghost use Rattle.std.specs.Prelude.{◌≡◌, ◌≢◌, ◌≤◌, ◌<◌, ◌^◌, ◌↔◌, ◌++◌, ◌∷◌, [], false, true, Some, None, List, ℕ, IfOk, IfErr, OnOk, IsUtf8, IsSome, IsTrue, is_some, option_map, unwrap_or, pos, codes, FitsSigned};
+ghost use Rattle.std.specs.Int.{w64};
 ghost use Rattle.serde_json.specs.Data.{Data, depth};
 ghost use Rattle.serde_json.specs.Find.{get};
 ghost use Rattle.serde_json.specs.Read.{max_depth, read};
@@ -182,6 +183,35 @@ fn with_ref(alloc: Global, tree: Value, name: &Text, id: i64, ms: u64) -> Result
     meta_of(alloc, tree)
 }
 
+fn id_of(snapshot: &Snapshot) -> i64
+    ensures { result ≡ snapshot.now.id }
+{
+    snapshot.id
+}
+
+fn sequence_of(snapshot: &Snapshot) -> i64
+    ensures { result ≡ snapshot.now.sequence }
+{
+    snapshot.sequence
+}
+
+fn or_zero(number: &Option<i64>) -> i64
+    ensures { result ≡ unwrap_or number.now (pos 0) }
+{
+    number.unwrap_or(0)
+}
+
+// A law for proofs: the numbers of a snapshot fit 64 bits.
+fn numbers_fit(snapshot: &Snapshot)
+    ensures id { FitsSigned w64 snapshot.now.id }
+    ensures sequence { FitsSigned w64 snapshot.now.sequence }
+    ensures parent { FitsSigned w64 (unwrap_or snapshot.now.parent (pos 0)) }
+    ensures schema { FitsSigned w64 (unwrap_or snapshot.now.schema_id (pos 0)) }
+{
+    let (_id, _sequence) = (id_of(snapshot), sequence_of(snapshot));
+    let (_parent, _schema) = (or_zero(&snapshot.parent), or_zero(&snapshot.schema_id));
+}
+
 // The metadata with a new snapshot, of the tree of well-formed metadata.
 fn with_snapshot(
     alloc: Global,
@@ -200,6 +230,7 @@ fn with_snapshot(
     requires moment { ms < 2 ^ 63 }
     ensures { IfOk result (λ m. view m ≡ with_snapshot snapshot.now summary.now ms (view tree)) }
 {
+    numbers_fit(snapshot);
     let tree = edits::with_snapshot(alloc, tree, snapshot, summary.inner().as_slice(), ms)?;
     meta_of(alloc, tree)
 }
@@ -430,6 +461,7 @@ impl Meta {
             → key ≢ codes "refs" → key ≢ codes "current-snapshot-id" → key ≢ codes "snapshot-log"
             → get key (view m) ≡ get key (view self.now)) }
     {
+        numbers_fit(snapshot);
         let copy = copied(&self.tree)?;
         with_snapshot(alloc, copy, snapshot, summary, ms)
     }
