@@ -30,9 +30,10 @@ use Rattle.metadata_snapshots.specs.Conditions.{IsNewId, IsKnownParent}
 use Rattle.metadata_snapshots.specs.Edits.{with_listed, without_snapshots, is_of, has_name}
 use Rattle.metadata_snapshots.proofs.TakenLaws.{get-these_other}
 use Rattle.metadata_snapshots.proofs.AddedLaws.{FitsFields, get-listed_other, snapshots-listed, known-listed, sound-listed, shallow-listed}
+use Rattle.table_metadata.specs.Conditions.{OthersStay, added_fields, taken_fields}
 use Rattle.table_metadata.specs.Edits.{with_snapshot, moved_ref, with_moved_ref, snapshot_log_item, with_current, moment_of, with_ref, metadata_log_item, with_previous, next_keeping}
 use Rattle.metadata_view.specs.declared.types.Snapshot.{Snapshot}
-use Rattle.metadata_form.proofs.FormLaws.{no-parts, no-both, no-within, or-true, record-parts, record-whole, record-set, fields-drop, first-field, items-push, items-drop, items-in, array-items, members-in, members-put, members-found, found-value, rules-set, rules-drop, first-rule, moment_i64, fits_i64}
+use Rattle.metadata_form.proofs.FormLaws.{no-parts, no-both, no-within, or-true, record-parts, record-whole, record-set, fields-drop, first-field, items-push, items-drop, items-in, array-items, members-in, members-put, members-found, found-value, rules-set, rules-drop, first-rule, moment_i64, fits_i64, or-false}
 use Rattle.metadata_view.proofs.SoundLaws.{IsSound}
 use Rattle.metadata_view.specs.Index.{first_double}
 use Rattle.metadata_snapshots.proofs.FieldLaws.{fits-id, fits-moment, is-moment, is_text, object-set, snapshots-in, whole-parts, whole-on, refs-same}
@@ -512,9 +513,15 @@ shallow-next f most ms d e shallow = (tame-next 124 most f ms d (e, shallow)).1
 -- ---- a new snapshot
 
 module _ (s : Snapshot) (ts : List (List ℕ × List ℕ)) (ms : ℕ) (d : Data) where
-  pub stays-with_snapshot : (q : List ℕ) → q ≢ codes "snapshots" → q ≢ codes "last-sequence-number" → q ≢ codes "refs" → q ≢ codes "current-snapshot-id" → q ≢ codes "snapshot-log" → get q (with_snapshot s ts ms d) ≡ get q d
+  pub stays-with_snapshot : OthersStay added_fields d (with_snapshot s ts ms d)
   unfolding with_snapshot
-  stays-with_snapshot q n l r c h = stays-with_ref (codes "main") s.id ms (with_listed s ts d) q r c h ∙ get-listed_other q s ts d (differ _ _ n) (differ _ _ l)
+  stays-with_snapshot q e =
+      let n = or-false (bytes_eq q (codes "snapshots")) _ e in
+      let l = or-false (bytes_eq q (codes "last-sequence-number")) _ n.1 in
+      let r = or-false (bytes_eq q (codes "refs")) _ l.1 in
+      let c = or-false (bytes_eq q (codes "current-snapshot-id")) _ r.1 in
+      let h = or-false (bytes_eq q (codes "snapshot-log")) _ c.1 in
+      get-with_ref_other q (codes "main") s.id ms (with_listed s ts d) r.0 c.0 h.0 ∙ get-listed_other q s ts d n.0 l.0
 
   module _ (fits : FitsFields s) where
     pub snapshots-with_snapshot : snapshots_of (with_snapshot s ts ms d) ≡ snapshots_of d ++ s ∷ []
@@ -537,6 +544,12 @@ fits-in (Some y) h z e = let same : y ≡ z = cc in subst (λ (x : ℤ). as_i64 
 
 -- ---- snapshots that go
 
-pub stays-without : (ids : List ℤ) (names : List (List ℕ)) (d : Data) (q : List ℕ) → q ≢ codes "snapshots" → q ≢ codes "refs" → q ≢ codes "statistics" → q ≢ codes "partition-statistics" → q ≢ codes "snapshot-log" → get q (without_snapshots ids names d) ≡ get q d
+pub stays-without : (ids : List ℤ) (names : List (List ℕ)) (d : Data) → OthersStay taken_fields d (without_snapshots ids names d)
 unfolding without_snapshots
-stays-without ids names d q n r s p l = get-these_other (is_of ids) (has_name names) d q (differ _ _ n) (differ _ _ r) (differ _ _ s) (differ _ _ p) (differ _ _ l)
+stays-without ids names d q e =
+    let n = or-false (bytes_eq q (codes "snapshots")) _ e in
+    let r = or-false (bytes_eq q (codes "refs")) _ n.1 in
+    let s = or-false (bytes_eq q (codes "statistics")) _ r.1 in
+    let p = or-false (bytes_eq q (codes "partition-statistics")) _ s.1 in
+    let l = or-false (bytes_eq q (codes "snapshot-log")) _ p.1 in
+    get-these_other (is_of ids) (has_name names) d q n.0 r.0 s.0 p.0 l.0

@@ -4,6 +4,7 @@
 #![tactic(auto)]
 
 mod cause;
+mod conditions;
 mod edits;
 mod meta;
 

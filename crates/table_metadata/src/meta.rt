@@ -11,14 +11,16 @@ ghost use Rattle.metadata_form.specs.declared.fault.MetaCause.TheVariants.{NotJs
 ghost use Rattle.metadata_view.specs.Fault.{fault_of};
 ghost use Rattle.metadata_view.specs.View.{value_in, uuid_of, location_of, last_sequence_of, updated_of, current_of, current_schema_id_of, default_spec_id_of, snapshots_of, refs_of, ref_with, statistics_of, property_of};
 ghost use Rattle.table_metadata.specs.Spelling.{Spells, IsRefused, IsReadAs, IsUnknown, IsFaultOf};
-ghost use Rattle.metadata_snapshots.specs.Edits.{without_snapshots, has_name};
-ghost use Rattle.metadata_snapshots.specs.Conditions.{IsTextual, IsNewId, IsKnownParent, IsIntOrNone, IsKept, has_child, leaves_whole};
+ghost use Rattle.metadata_snapshots.specs.Edits.{without_snapshots};
+ghost use Rattle.metadata_snapshots.specs.Conditions.{IsTextual, IsNewId, IsKnownParent, IsIntOrNone};
+ghost use Rattle.table_metadata.specs.Conditions.{CanLose, OthersStay, added_fields, taken_fields};
 ghost use Rattle.table_metadata.specs.Edits.{with_ref, with_snapshot, next_version, next_keeping, version_limit, kept_versions, HasVersionLimit};
 ghost use Rattle.metadata_view.specs.Walk.{IsWalk, IsAncestor, snapshot_with};
 ghost use Rattle.table_metadata.specs.declared.cause.MetaErr.TheVariants.{Bad};
 ghost use Rattle.table_metadata.specs.declared.cause.EditErr.TheVariants.{UnknownSnapshot};
 
 use crate::cause::{EditErr, MetaErr};
+use crate::conditions::{has_child, has_name, is_kept, leaves_whole};
 use crate::edits;
 use ice_store::{Bytes, Items, Text, TextList, natural_of};
 use metadata_form::{Fault, MetaCause, form_fault};
@@ -244,9 +246,7 @@ fn without_snapshots(
 ) -> Result<Meta, AllocError>
     requires sound { fault_of (view tree) ≡ None }
     requires shallow { depth (view tree) ≤ max_depth }
-    requires main { has_name refs.now (codes "main") ≡ false }
-    requires current { IsKept ids.now (current_of (view tree)) }
-    requires whole { leaves_whole ids.now refs.now (refs_of (view tree)) ≡ true }
+    requires whole { CanLose ids.now refs.now (view tree) }
     ensures { IfOk result (λ m. view m ≡ without_snapshots ids.now refs.now (view tree)) }
 {
     let tree = metadata_snapshots::without_snapshots(
@@ -439,6 +439,16 @@ impl Meta {
         id != -1 && !self.has_snapshot(id) && !has_child(self.typed.snapshots.inner(), id)
     }
 
+    /// Whether a new snapshot may have this parent: none, or a snapshot of the table.
+    pub fn knows_parent(&self, parent: Option<i64>) -> bool
+        ensures { IsTrue result ↔ IsKnownParent (snapshots_of (view self.now)) parent }
+    {
+        match parent {
+            Some(id) => self.has_snapshot(id),
+            None => true,
+        }
+    }
+
     /// The metadata with a new snapshot, whose summary has these texts beside its operation, and with `main` at it since
     /// the moment `ms` or, where that is later, the metadata's own. `last-sequence-number` becomes the snapshot's. Every
     /// other field stays (Iceberg table specification, Snapshots).
@@ -457,9 +467,7 @@ impl Meta {
         requires moment { ms < 2 ^ 63 }
         ensures ok { IfOk result (λ m. view m ≡ with_snapshot snapshot.now summary.now ms (view self.now)) }
         ensures snapshots { IfOk result (λ m. snapshots_of (view m) ≡ snapshots_of (view self.now) ++ snapshot.now ∷ []) }
-        ensures stays { IfOk result (λ m. (key : List ℕ) → key ≢ codes "snapshots" → key ≢ codes "last-sequence-number"
-            → key ≢ codes "refs" → key ≢ codes "current-snapshot-id" → key ≢ codes "snapshot-log"
-            → get key (view m) ≡ get key (view self.now)) }
+        ensures stays { IfOk result (λ m. OthersStay added_fields (view self.now) (view m)) }
     {
         numbers_fit(snapshot);
         let copy = copied(&self.tree)?;
@@ -485,6 +493,17 @@ impl Meta {
         with_snapshot(alloc, self.into_tree(), snapshot, summary, ms)
     }
 
+    /// Whether the snapshots of these ids may go with the refs of these names: `main` isn't among the names, and neither
+    /// the current snapshot nor that of a ref which stays is among the ids.
+    pub fn can_lose(&self, ids: &IdList, refs: &TextList) -> bool
+        ensures { IsTrue result ↔ CanLose ids.now refs.now (view self.now) }
+    {
+        let (ids, names) = (ids.inner().as_slice(), refs.inner().as_slice());
+        !has_name(names, b"main")
+            && is_kept(ids, self.typed.current)
+            && leaves_whole(ids, names, self.typed.refs.inner())
+    }
+
     /// The metadata without the snapshots of these ids, their items of `statistics` and `partition-statistics`, the refs
     /// of these names, and the items of `snapshot-log` up to the last one of such a snapshot. No ref that stays names
     /// such a snapshot, and `main` stays. Every other field stays (Iceberg table specification, Snapshots).
@@ -494,13 +513,9 @@ impl Meta {
         ids: &IdList,
         refs: &TextList,
     ) -> Result<Meta, AllocError>
-        requires main { has_name refs.now (codes "main") ≡ false }
-        requires current { IsKept ids.now (current_of (view self.now)) }
-        requires whole { leaves_whole ids.now refs.now (refs_of (view self.now)) ≡ true }
+        requires whole { CanLose ids.now refs.now (view self.now) }
         ensures ok { IfOk result (λ m. view m ≡ without_snapshots ids.now refs.now (view self.now)) }
-        ensures stays { IfOk result (λ m. (key : List ℕ) → key ≢ codes "snapshots" → key ≢ codes "refs"
-            → key ≢ codes "statistics" → key ≢ codes "partition-statistics" → key ≢ codes "snapshot-log"
-            → get key (view m) ≡ get key (view self.now)) }
+        ensures stays { IfOk result (λ m. OthersStay taken_fields (view self.now) (view m)) }
     {
         let copy = copied(&self.tree)?;
         without_snapshots(alloc, copy, ids, refs)
@@ -513,9 +528,7 @@ impl Meta {
         ids: &IdList,
         refs: &TextList,
     ) -> Result<Meta, AllocError>
-        requires main { has_name refs.now (codes "main") ≡ false }
-        requires current { IsKept ids.now (current_of (view self)) }
-        requires whole { leaves_whole ids.now refs.now (refs_of (view self)) ≡ true }
+        requires whole { CanLose ids.now refs.now (view self) }
         ensures { IfOk result (λ m. view m ≡ without_snapshots ids.now refs.now (view self)) }
     {
         without_snapshots(alloc, self.into_tree(), ids, refs)
@@ -619,17 +632,6 @@ fn ref_with<'r>(refs: &'r [Ref], name: &Text) -> Option<&'r Ref>
         }
     }
     None
-}
-
-fn has_child(snapshots: &[Snapshot], id: i64) -> bool
-    ensures { result ≡ has_child snapshots.now id }
-{
-    for snapshot in snapshots {
-        if snapshot.parent == Some(id) {
-            return true;
-        }
-    }
-    false
 }
 
 fn value_of<'p>(properties: &'p [Property], name: &str) -> Option<&'p Text>

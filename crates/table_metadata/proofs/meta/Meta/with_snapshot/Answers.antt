@@ -22,4 +22,4 @@ pub returns-clause-stays : goal.returns-clause-stays
 returns-clause-stays c =
     let d = view c.in_ok-copy.copy in
     let copy : d ≡ view c.args.self.now = c.in_ok-copy.ensures ∙ ap view c.self.view_is in
-    IfOk-weaker c.with_snapshot.result _ _ (λ m e. λ q n l r k h. ap (get q) e ∙ stays-with_snapshot c.args.snapshot.now c.args.summary.now c.args.ms d q n l r k h ∙ ap (get q) copy) c.with_snapshot.ensures
+    IfOk-weaker c.with_snapshot.result _ _ (λ m e. λ q h. ap (get q) e ∙ stays-with_snapshot c.args.snapshot.now c.args.summary.now c.args.ms d q h ∙ ap (get q) copy) c.with_snapshot.ensures
