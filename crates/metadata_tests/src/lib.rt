@@ -4,6 +4,8 @@
 #[cfg(test)]
 mod forms;
 #[cfg(test)]
+mod snapshots;
+#[cfg(test)]
 mod tables;
 
 /// The metadata of a table with the snapshots 11, 22 and 33, each the parent of the next; the branch `main` is at 33.

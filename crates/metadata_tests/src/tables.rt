@@ -21,7 +21,7 @@ fn changed(alloc: Global, text: &str, from: &str, to: &str) -> Result<String, Al
 }
 
 // The text after the changes `from=>to`, with `;;` between them.
-fn neighbour(alloc: Global, text: &str, changes: &str) -> Result<String, AllocError> {
+pub(crate) fn neighbour(alloc: Global, text: &str, changes: &str) -> Result<String, AllocError> {
     let mut now = String::from_str(alloc, text)?;
     for change in changes.split(";;") {
         let (from, to) = change.split_once("=>").unwrap_or(("", ""));
@@ -174,13 +174,13 @@ fn required_fields_missed(rt: HostRuntime) -> Result<(), Fail> {
     Ok(())
 }
 
-fn text_of(alloc: Global, text: &str) -> Result<Text, AllocError>
+pub(crate) fn text_of(alloc: Global, text: &str) -> Result<Text, AllocError>
     ensures { IfOk result (λ t. IsUtf8 t) }
 {
     Text::copy_of(alloc, text.as_bytes())
 }
 
-fn shown(text: &Text) -> &str {
+pub(crate) fn shown(text: &Text) -> &str {
     std::str::from_utf8(text.inner().as_slice()).unwrap_or("no text")
 }
 
@@ -188,12 +188,12 @@ fn text_in(bytes: Bytes) -> Text {
     Text::new(bytes.into_inner())
 }
 
-fn written(alloc: Global, meta: &Meta) -> Result<Text, AllocError> {
+pub(crate) fn written(alloc: Global, meta: &Meta) -> Result<Text, AllocError> {
     Ok(text_in(write_meta(alloc, meta)?))
 }
 
 // The functions that hold metadata do one thing each: a proof grows with all that is held where an error may come.
-fn read(alloc: Global, text: &str) -> Result<Meta, MetaErr> {
+pub(crate) fn read(alloc: Global, text: &str) -> Result<Meta, MetaErr> {
     read_meta(alloc, text.as_bytes())
 }
 
@@ -530,7 +530,7 @@ fn fields_read(rt: HostRuntime) -> Result<(), Fail> {
     Ok(())
 }
 
-fn show_walk(alloc: Global, meta: &Meta, id: i64) -> Result<String, AllocError> {
+pub(crate) fn show_walk(alloc: Global, meta: &Meta, id: i64) -> Result<String, AllocError> {
     let ids = meta.ancestors(alloc, id)?;
     let ids = ids.inner().as_slice();
     format!(in alloc; "{ids:?}")

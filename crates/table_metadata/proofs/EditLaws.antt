@@ -1,5 +1,5 @@
 -- What the edits keep: metadata stays well-formed.
-use Rattle.std.proofs.Common.{◌≡◌, ◌≢◌, ℕ, suc, ℤ, pos, negsuc, ◌≤◌, ◌<◌, ◌-◌, ◌^◌, ◌++◌, length, drop, List, [], ◌∷◌, Bool, true, false, not, ◌&&◌, ◌||◌, cond, codes, Option, Some, None, is_some, option_map, option_and_then, map, unwrap_or, refl, sym, ap, ◌∙◌, subst, arith, true≢false, bytes_eq, Ordering, Less, Equal, Greater, is_eq}
+use Rattle.std.proofs.Common.{◌≡◌, ◌≢◌, ℕ, suc, ℤ, pos, negsuc, ◌≤◌, ◌<◌, ◌-◌, ◌^◌, ◌++◌, length, drop, List, [], ◌∷◌, Bool, true, false, not, ◌&&◌, ◌||◌, cond, codes, Option, Some, None, is_some, option_map, option_and_then, map, unwrap_or, FitsSigned, w64, refl, sym, ap, ◌∙◌, subst, arith, true≢false, bytes_eq, Ordering, Less, Equal, Greater, is_eq}
 use Rattle.std.specs.Prelude.{nat_lt}
 use Rattle.std.specs.Option.{option_or}
 use Rattle.std.specs.Ordering.{int_eq, nat_cmp, match_ordering}
@@ -26,11 +26,17 @@ use Rattle.metadata_form.specs.Fault.{unless_2, list_fault}
 use Rattle.metadata_view.specs.View.{updated_of, current_of, snapshots_of, snapshots_in, snapshot_of, main_ref, new_branch}
 use Rattle.metadata_view.specs.Walk.{snapshot_with, first_return}
 use Rattle.metadata_view.specs.Links.{is_main, main_agrees, current_fault, is_whole_ref, first_broken, refs_fault, ref_fault}
-use Rattle.table_metadata.specs.Edits.{moved_ref, with_moved_ref, snapshot_log_item, with_current, moment_of, with_ref, metadata_log_item, with_previous, next_keeping}
+use Rattle.metadata_snapshots.specs.Conditions.{IsNewId, IsKnownParent}
+use Rattle.metadata_snapshots.specs.Edits.{with_listed, without_snapshots, is_of, has_name}
+use Rattle.metadata_snapshots.proofs.TakenLaws.{get-these_other}
+use Rattle.metadata_snapshots.proofs.AddedLaws.{FitsFields, get-listed_other, snapshots-listed, known-listed, sound-listed, shallow-listed}
+use Rattle.table_metadata.specs.Conditions.{OthersStay, added_fields, taken_fields}
+use Rattle.table_metadata.specs.Edits.{with_snapshot, moved_ref, with_moved_ref, snapshot_log_item, with_current, moment_of, with_ref, metadata_log_item, with_previous, next_keeping}
 use Rattle.metadata_view.specs.declared.types.Snapshot.{Snapshot}
-use Rattle.metadata_form.proofs.FormLaws.{no-parts, no-both, no-within, or-true, record-parts, record-whole, record-set, fields-drop, first-field, items-push, items-drop, items-in, array-items, members-in, members-put, members-found, found-value, rules-set, rules-drop, first-rule, moment_i64}
+use Rattle.metadata_form.proofs.FormLaws.{no-parts, no-both, no-within, or-true, record-parts, record-whole, record-set, fields-drop, first-field, items-push, items-drop, items-in, array-items, members-in, members-put, members-found, found-value, rules-set, rules-drop, first-rule, moment_i64, fits_i64, or-false}
 use Rattle.metadata_view.proofs.SoundLaws.{IsSound}
 use Rattle.metadata_view.specs.Index.{first_double}
+use Rattle.metadata_snapshots.proofs.FieldLaws.{fits-id, fits-moment, is-moment, is_text, object-set, snapshots-in, whole-parts, whole-on, refs-same}
 
 -- ---- fields that stay
 
@@ -170,18 +176,6 @@ unfolding moved_ref new_branch
 id-moved id None e = ap (λ i. unwrap_or i (pos 0)) e
 id-moved id (Some r) e = ap (λ x. unwrap_or (option_and_then signed x) (pos 0)) (get-set (codes "snapshot-id") (number (of_integer id)) r) ∙ ap (λ i. unwrap_or i (pos 0)) e
 
-fits-id : (id : ℤ) → as_i64 (of_integer id) ≡ Some id → misfit Long (number (of_integer id)) ≡ None
-unfolding misfit
-fits-id id e = ap (λ o. itself_unless (is_some o)) e
-
-fits-moment : (t : ℕ) → t < 2 ^ 63 → misfit Long (number (unsigned t)) ≡ None
-unfolding misfit
-fits-moment t h = ap (λ o. itself_unless (is_some o)) (moment_i64 t h)
-
-is-moment : (t : ℕ) → t < 2 ^ 63 → misfit Moment (number (unsigned t)) ≡ None
-unfolding misfit
-is-moment t h = ap (λ o. itself_unless (is_natural_in o)) (moment_i64 t h)
-
 branch_type : misfit RefType (string (codes "branch")) ≡ None
 unfolding misfit is_ref_type is_branch_text
 branch_type = refl
@@ -220,13 +214,6 @@ get-refs name id ms d =
     get-if (is_main name) (codes "refs") _ _ _ (get-current_other (codes "refs") id _ _ refl refl ∙ moved) moved
 
 -- ---- each ref names a snapshot, and `main` the current one
-
-whole-parts : (b : Bool) (o : Option (List ℕ)) (path : List ℕ) → cond b o (Some path) ≡ None → (b ≡ true) × (o ≡ None)
-whole-parts true o path e = (refl, e)
-whole-parts false o path e = absurd (cc)
-
-whole-on : (b : Bool) (o : Option (List ℕ)) (path : List ℕ) → b ≡ true → o ≡ None → cond b o (Some path) ≡ None
-whole-on b o path p q = ap (λ x. cond x o (Some path)) p ∙ q
 
 broken-put_at : (ss : List Snapshot) (b : Bool) (o : Ordering) (x y z : Members) → first_broken ss b x ≡ None → (o ≡ Equal → first_broken ss b y ≡ None) → first_broken ss b z ≡ None → first_broken ss b (match_ordering o x y z) ≡ None
 broken-put_at ss b Less x y z p q r = p
@@ -339,10 +326,6 @@ log-in : (d : Data) → rules_fault metadata_rules d ≡ None → items_fault (r
 unfolding rule_fault
 log-in d old = items-in (record_fault snapshot_log_fields) (get (codes "snapshot-log") d) (no-within (in_member (codes "snapshot-log")) _ (first-rule rule.SnapshotLog (drop 17 metadata_rules) d (rules-drop 16 metadata_rules d old)))
 
-snapshots-in : (d : Data) → rules_fault metadata_rules d ≡ None → items_fault (record_fault snapshot_fields) 0 (items_at (codes "snapshots") d) ≡ None
-unfolding rule_fault
-snapshots-in d old = items-in (record_fault snapshot_fields) (get (codes "snapshots") d) (no-within (in_member (codes "snapshots")) _ (first-rule rule.Snapshots (drop 18 metadata_rules) d (rules-drop 17 metadata_rules d old)))
-
 files-in : (d : Data) → rules_fault metadata_rules d ≡ None → items_fault (record_fault metadata_log_fields) 0 (items_at (codes "metadata-log") d) ≡ None
 unfolding rule_fault
 files-in d old = items-in (record_fault metadata_log_fields) (get (codes "metadata-log") d) (no-within (in_member (codes "metadata-log")) _ (first-rule rule.MetadataLog (drop 11 metadata_rules) d (rules-drop 10 metadata_rules d old)))
@@ -421,10 +404,6 @@ updated-bound : (d : Data) → rules_fault metadata_rules d ≡ None → updated
 unfolding rule_fault field_fault
 updated-bound d h = moment-bound (get (codes "last-updated-ms") d) (no-within (in_member (codes "last-updated-ms")) _ (first-rule (rule.Holds (field Key.LastUpdatedMs Required Moment)) (drop 9 metadata_rules) d (rules-drop 8 metadata_rules d h)))
 
-object-set : (k : List ℕ) (v d : Data) → is_some (as_object (set k v d)) ≡ true
-unfolding set
-object-set k v d = refl
-
 object-with_ref : (name : List ℕ) (id : ℤ) (ms : ℕ) (d : Data) → (b : Bool) → is_main name ≡ b → is_some (as_object (with_ref name id ms d)) ≡ true
 unfolding with_moved_ref with_current add
 object-with_ref name id ms d true e = ap (λ (x : Data). is_some (as_object x)) (main-moves name id ms d e) ∙ object-set (codes "snapshot-log") _ _
@@ -463,10 +442,6 @@ get-next_updated f most ms d = get-set (codes "last-updated-ms") _ _
 get-next_log : (f : List ℕ) (most ms : ℕ) (d : Data) → get (codes "metadata-log") (next_keeping most f ms d) ≡ Some (array (items_of (last most (items_at (codes "metadata-log") d ++ metadata_log_item f (updated_of d) ∷ []))))
 unfolding next_keeping with_previous
 get-next_log f most ms d = get-set_other (codes "metadata-log") (codes "last-updated-ms") _ _ refl ∙ get-add_within most (codes "metadata-log") _ d
-
-is_text : (f : List ℕ) → misfit Text (string f) ≡ None
-unfolding misfit
-is_text f = refl
 
 file-item : (f : List ℕ) (t : ℕ) → t < 2 ^ 63 → fields_fault metadata_log_fields (metadata_log_item f t) ≡ None
 unfolding fields_fault field_fault metadata_log_item
@@ -510,14 +485,6 @@ object-next : (f : List ℕ) (most ms : ℕ) (d : Data) → is_some (as_object (
 unfolding next_keeping
 object-next f most ms d = object-set (codes "last-updated-ms") _ _
 
-abbrev refs_at : List Snapshot → Option Data → Option Data → Option ℤ → Option (List ℕ)
-refs_at ss refs main current = option_or (current_fault ss main current) (option_map (in_member (codes "refs")) (first_broken ss (main_agrees main current) (members_in refs)))
-
-refs-same : (ss : List Snapshot) (x d : Data) → get (codes "refs") x ≡ get (codes "refs") d → main_ref x ≡ main_ref d → current_of x ≡ current_of d → ref_fault ss x ≡ ref_fault ss d
-unfolding ref_fault
-refs-same ss x d refs main current =
-    ap (λ o. refs_at ss o (main_ref x) (current_of x)) refs ∙ ap (λ o. refs_at ss (get (codes "refs") d) o (current_of x)) main ∙ ap (refs_at ss (get (codes "refs") d) (main_ref d)) current
-
 pub sound-next : (f : List ℕ) (most ms : ℕ) (d : Data) → ms < 2 ^ 63 → IsSound d → depth d ≤ 127 → IsSound (next_keeping most f ms d)
 sound-next f most ms d early s shallow =
     let x = next_keeping most f ms d in
@@ -542,3 +509,47 @@ sound-next f most ms d early s shallow =
 
 pub shallow-next : (f : List ℕ) (most ms : ℕ) (d : Data) → has_float d ≡ false → depth d ≤ 127 → depth (next_keeping most f ms d) ≤ 127
 shallow-next f most ms d e shallow = (tame-next 124 most f ms d (e, shallow)).1
+
+-- ---- a new snapshot
+
+module _ (s : Snapshot) (ts : List (List ℕ × List ℕ)) (ms : ℕ) (d : Data) where
+  pub stays-with_snapshot : OthersStay added_fields d (with_snapshot s ts ms d)
+  unfolding with_snapshot
+  stays-with_snapshot q e =
+      let n = or-false (bytes_eq q (codes "snapshots")) _ e in
+      let l = or-false (bytes_eq q (codes "last-sequence-number")) _ n.1 in
+      let r = or-false (bytes_eq q (codes "refs")) _ l.1 in
+      let c = or-false (bytes_eq q (codes "current-snapshot-id")) _ r.1 in
+      let h = or-false (bytes_eq q (codes "snapshot-log")) _ c.1 in
+      get-with_ref_other q (codes "main") s.id ms (with_listed s ts d) r.0 c.0 h.0 ∙ get-listed_other q s ts d n.0 l.0
+
+  module _ (fits : FitsFields s) where
+    pub snapshots-with_snapshot : snapshots_of (with_snapshot s ts ms d) ≡ snapshots_of d ++ s ∷ []
+    unfolding with_snapshot
+    snapshots-with_snapshot = ap snapshots_in (get-with_ref_other (codes "snapshots") (codes "main") s.id ms (with_listed s ts d) refl refl refl) ∙ snapshots-listed s ts d fits
+
+    module _ (new : IsNewId (snapshots_of d) s.id) (known : IsKnownParent (snapshots_of d) s.parent) (sound : IsSound d) (shallow : depth d ≤ 127) where
+      pub sound-with_snapshot : ms < 2 ^ 63 → IsSound (with_snapshot s ts ms d)
+      unfolding with_snapshot
+      sound-with_snapshot early = sound-with_ref (codes "main") s.id ms (with_listed s ts d) fits.id (known-listed s ts d fits) early (sound-listed s ts d fits new known sound shallow) (shallow-listed s ts d sound shallow)
+
+      pub shallow-with_snapshot : depth (with_snapshot s ts ms d) ≤ 127
+      unfolding with_snapshot
+      shallow-with_snapshot = shallow-with_ref (codes "main") s.id ms (with_listed s ts d) (sound-listed s ts d fits new known sound shallow).no_float (shallow-listed s ts d sound shallow)
+
+-- a number that is there fits, where it fits with 0 in place of none
+pub fits-in : (o : Option ℤ) → FitsSigned w64 (unwrap_or o (pos 0)) → (z : ℤ) → o ≡ Some z → as_i64 (of_integer z) ≡ Some z
+fits-in None h z e = absurd (cc)
+fits-in (Some y) h z e = let same : y ≡ z = cc in subst (λ (x : ℤ). as_i64 (of_integer x) ≡ Some x) same (fits_i64 y h)
+
+-- ---- snapshots that go
+
+pub stays-without : (ids : List ℤ) (names : List (List ℕ)) (d : Data) → OthersStay taken_fields d (without_snapshots ids names d)
+unfolding without_snapshots
+stays-without ids names d q e =
+    let n = or-false (bytes_eq q (codes "snapshots")) _ e in
+    let r = or-false (bytes_eq q (codes "refs")) _ n.1 in
+    let s = or-false (bytes_eq q (codes "statistics")) _ r.1 in
+    let p = or-false (bytes_eq q (codes "partition-statistics")) _ s.1 in
+    let l = or-false (bytes_eq q (codes "snapshot-log")) _ p.1 in
+    get-these_other (is_of ids) (has_name names) d q n.0 r.0 s.0 p.0 l.0

@@ -7,6 +7,8 @@ use Rattle.serde_json.specs.Find.{get, of_integer}
 use Rattle.metadata_json.specs.Edits.{set, object_at, add, add_within}
 use Rattle.metadata_view.specs.Links.{is_main}
 use Rattle.metadata_view.specs.View.{updated_of, property_of, new_branch}
+use Rattle.metadata_view.specs.declared.types.Snapshot.{Snapshot}
+use Rattle.metadata_snapshots.specs.Edits.{with_listed}
 
 -- the ref at the snapshot; a new one is a branch
 unfoldable pub moved_ref : ℤ → Option Data → Data
@@ -71,3 +73,9 @@ next_keeping most previous ms d = set (codes "last-updated-ms") (number (unsigne
 -- the next version, updated at `ms` or later, after the metadata file `previous`
 unfoldable pub next_version : List ℕ → ℕ → Data → Data
 next_version previous ms d = next_keeping (kept_versions (version_limit d)) previous ms d
+
+-- ---- a new snapshot
+
+-- The snapshot is listed, and `main` goes to it.
+unfoldable pub with_snapshot : Snapshot → List (List ℕ × List ℕ) → ℕ → Data → Data
+with_snapshot s texts ms d = with_ref (codes "main") s.id ms (with_listed s texts d)

@@ -1,3 +1,4 @@
+pub mod Conditions
 pub mod Edits
 pub mod MetaIs
 pub mod Spelling

@@ -1,12 +1,15 @@
 //! The edits of metadata, on its tree and in place.
-ghost use Rattle.std.specs.Prelude.{◌≡◌, ◌<◌, IfOk, option_map};
+ghost use Rattle.std.specs.Prelude.{◌≡◌, ◌<◌, IfOk, IsUtf8, option_map};
 ghost use Rattle.serde_json.specs.Find.{get};
 ghost use Rattle.metadata_json.specs.Edits.{set};
 ghost use Rattle.serde_json.specs.View.{view};
-ghost use Rattle.table_metadata.specs.Edits.{moved_ref, with_moved_ref, snapshot_log_item, with_current, moment_of, with_ref, metadata_log_item, with_previous, next_keeping};
+ghost use Rattle.metadata_snapshots.specs.Conditions.{AreTexts};
+ghost use Rattle.table_metadata.specs.Edits.{moved_ref, with_moved_ref, snapshot_log_item, with_current, moment_of, with_ref, with_snapshot, metadata_log_item, with_previous, next_keeping};
 
+use ice_store::Text;
 use metadata_json::{Taken, add, add_within, object_or_empty, set, take, unsigned_or_zero};
-use metadata_view::new_branch;
+use metadata_snapshots::with_listed;
+use metadata_view::{Snapshot, new_branch};
 use serde_json::{Value, json};
 use std::alloc::{AllocError, Global};
 
@@ -76,6 +79,24 @@ pub(crate) fn with_ref(
     } else {
         Ok(moved)
     }
+}
+
+/// The tree with one more snapshot, to which `main` goes.
+#[tactic(auto, unfolding(crate::specs::Edits::with_snapshot))]
+pub(crate) fn with_snapshot(
+    alloc: Global,
+    tree: Value,
+    snapshot: &Snapshot,
+    texts: &[(Text, Text)],
+    ms: u64,
+) -> Result<Value, AllocError>
+    requires list { IsUtf8 snapshot.now.list }
+    requires operation { IsUtf8 snapshot.now.operation }
+    requires texts { AreTexts texts.now }
+    ensures { IfOk result (λ v. view v ≡ with_snapshot snapshot.now texts.now ms (view tree)) }
+{
+    let listed = with_listed(alloc, tree, snapshot, texts)?;
+    with_ref(alloc, listed, "main", snapshot.id, ms)
 }
 
 #[tactic(auto, unfolding(crate::specs::Edits::metadata_log_item))]

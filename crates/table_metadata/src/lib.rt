@@ -4,12 +4,14 @@
 #![tactic(auto)]
 
 mod cause;
+mod conditions;
 mod edits;
 mod meta;
 
 pub use cause::{EditErr, MetaErr};
 pub use meta::{DEFAULT_VERSIONS, Meta, read_meta, write_meta};
 pub use metadata_form::MetaCause;
+pub use metadata_snapshots::PairTexts;
 pub use metadata_view::{
     IdList, Property, PropertyList, Ref, RefList, Snapshot, SnapshotList, Statistics,
     StatisticsList,

@@ -1,5 +1,6 @@
 //! Metadata: its tree, with a typed view beside it.
-ghost use Rattle.std.specs.Prelude.{◌≡◌, ◌≢◌, ◌≤◌, ◌<◌, ◌^◌, ◌↔◌, [], Some, None, List, ℕ, IfOk, IfErr, OnOk, IsUtf8, IsSome, IsTrue, is_some, option_map, codes};
+ghost use Rattle.std.specs.Prelude.{◌≡◌, ◌≢◌, ◌≤◌, ◌<◌, ◌^◌, ◌↔◌, ◌++◌, ◌∷◌, [], false, true, Some, None, List, ℕ, IfOk, IfErr, OnOk, IsUtf8, IsSome, IsTrue, is_some, option_map, unwrap_or, pos, codes, FitsSigned};
+ghost use Rattle.std.specs.Int.{w64};
 ghost use Rattle.serde_json.specs.Data.{Data, depth};
 ghost use Rattle.serde_json.specs.Find.{get};
 ghost use Rattle.serde_json.specs.Read.{max_depth, read};
@@ -10,15 +11,20 @@ ghost use Rattle.metadata_form.specs.declared.fault.MetaCause.TheVariants.{NotJs
 ghost use Rattle.metadata_view.specs.Fault.{fault_of};
 ghost use Rattle.metadata_view.specs.View.{value_in, uuid_of, location_of, last_sequence_of, updated_of, current_of, current_schema_id_of, default_spec_id_of, snapshots_of, refs_of, ref_with, statistics_of, property_of};
 ghost use Rattle.table_metadata.specs.Spelling.{Spells, IsRefused, IsReadAs, IsUnknown, IsFaultOf};
-ghost use Rattle.table_metadata.specs.Edits.{with_ref, next_version, next_keeping, version_limit, kept_versions, HasVersionLimit};
+ghost use Rattle.metadata_snapshots.specs.Edits.{without_snapshots};
+ghost use Rattle.metadata_snapshots.specs.Conditions.{IsTextual, IsNewId, IsKnownParent, IsIntOrNone};
+ghost use Rattle.table_metadata.specs.Conditions.{CanLose, OthersStay, added_fields, taken_fields};
+ghost use Rattle.table_metadata.specs.Edits.{with_ref, with_snapshot, next_version, next_keeping, version_limit, kept_versions, HasVersionLimit};
 ghost use Rattle.metadata_view.specs.Walk.{IsWalk, IsAncestor, snapshot_with};
 ghost use Rattle.table_metadata.specs.declared.cause.MetaErr.TheVariants.{Bad};
 ghost use Rattle.table_metadata.specs.declared.cause.EditErr.TheVariants.{UnknownSnapshot};
 
 use crate::cause::{EditErr, MetaErr};
+use crate::conditions::{has_child, has_name, is_kept, leaves_whole};
 use crate::edits;
-use ice_store::{Bytes, Items, Text, natural_of};
+use ice_store::{Bytes, Items, Text, TextList, natural_of};
 use metadata_form::{Fault, MetaCause, form_fault};
+use metadata_snapshots::{PairTexts, as_str};
 use metadata_view::{
     IdList, Index, Indexed, Property, Ref, RefList, Snapshot, SnapshotList, StatisticsList, Typed,
     double_id, find, has, index_of, links_fault, on_walk, typed_view, walk,
@@ -120,16 +126,6 @@ fn linked(alloc: Global, tree: Value) -> Result<Meta, MetaErr>
     }
 }
 
-fn as_str(text: &Text) -> &str
-    requires { IsUtf8 text.now }
-    ensures { result.now ≡ text.now }
-{
-    match std::str::from_utf8(text.inner().as_slice()) {
-        Ok(s) => s,
-        Err(_) => unreachable!(),
-    }
-}
-
 fn read(alloc: Global, bytes: &[u8]) -> Result<Meta, MetaErr>
     ensures ok { IfOk result (λ m. Spells bytes.now (view m)) }
     ensures err { IfErr result (λ e. IsRefused bytes.now e) }
@@ -186,6 +182,79 @@ fn with_ref(alloc: Global, tree: Value, name: &Text, id: i64, ms: u64) -> Result
     ensures { IfOk result (λ m. view m ≡ with_ref name.now id ms (view tree)) }
 {
     let tree = edits::with_ref(alloc, tree, as_str(name), id, ms)?;
+    meta_of(alloc, tree)
+}
+
+fn id_of(snapshot: &Snapshot) -> i64
+    ensures { result ≡ snapshot.now.id }
+{
+    snapshot.id
+}
+
+fn sequence_of(snapshot: &Snapshot) -> i64
+    ensures { result ≡ snapshot.now.sequence }
+{
+    snapshot.sequence
+}
+
+fn or_zero(number: &Option<i64>) -> i64
+    ensures { result ≡ unwrap_or number.now (pos 0) }
+{
+    number.unwrap_or(0)
+}
+
+// A law for proofs: the numbers of a snapshot fit 64 bits.
+fn numbers_fit(snapshot: &Snapshot)
+    ensures id { FitsSigned w64 snapshot.now.id }
+    ensures sequence { FitsSigned w64 snapshot.now.sequence }
+    ensures parent { FitsSigned w64 (unwrap_or snapshot.now.parent (pos 0)) }
+    ensures schema { FitsSigned w64 (unwrap_or snapshot.now.schema_id (pos 0)) }
+{
+    let (_id, _sequence) = (id_of(snapshot), sequence_of(snapshot));
+    let (_parent, _schema) = (or_zero(&snapshot.parent), or_zero(&snapshot.schema_id));
+}
+
+// The metadata with a new snapshot, of the tree of well-formed metadata.
+fn with_snapshot(
+    alloc: Global,
+    tree: Value,
+    snapshot: &Snapshot,
+    summary: &PairTexts,
+    ms: u64,
+) -> Result<Meta, AllocError>
+    requires sound { fault_of (view tree) ≡ None }
+    requires shallow { depth (view tree) ≤ max_depth }
+    requires texts { IsTextual snapshot.now summary.now }
+    requires id { IsNewId (snapshots_of (view tree)) snapshot.now.id }
+    requires parent { IsKnownParent (snapshots_of (view tree)) snapshot.now.parent }
+    requires schema { IsIntOrNone snapshot.now.schema_id }
+    requires made { snapshot.now.ms < 2 ^ 63 }
+    requires moment { ms < 2 ^ 63 }
+    ensures { IfOk result (λ m. view m ≡ with_snapshot snapshot.now summary.now ms (view tree)) }
+{
+    numbers_fit(snapshot);
+    let tree = edits::with_snapshot(alloc, tree, snapshot, summary.inner().as_slice(), ms)?;
+    meta_of(alloc, tree)
+}
+
+// The metadata without snapshots, of the tree of well-formed metadata.
+fn without_snapshots(
+    alloc: Global,
+    tree: Value,
+    ids: &IdList,
+    refs: &TextList,
+) -> Result<Meta, AllocError>
+    requires sound { fault_of (view tree) ≡ None }
+    requires shallow { depth (view tree) ≤ max_depth }
+    requires whole { CanLose ids.now refs.now (view tree) }
+    ensures { IfOk result (λ m. view m ≡ without_snapshots ids.now refs.now (view tree)) }
+{
+    let tree = metadata_snapshots::without_snapshots(
+        alloc,
+        tree,
+        ids.inner().as_slice(),
+        refs.inner().as_slice(),
+    )?;
     meta_of(alloc, tree)
 }
 
@@ -360,6 +429,109 @@ impl Meta {
         ensures { IfOk result (λ m. view m ≡ with_ref name.now id ms (view self)) }
     {
         with_ref(alloc, self.into_tree(), name, id, ms)
+    }
+
+    /// Whether a new snapshot may have this id: it isn't -1, and is neither the id nor the parent of a snapshot of the
+    /// table.
+    pub fn is_new_id(&self, id: i64) -> bool
+        ensures { IsTrue result ↔ IsNewId (snapshots_of (view self.now)) id }
+    {
+        id != -1 && !self.has_snapshot(id) && !has_child(self.typed.snapshots.inner(), id)
+    }
+
+    /// Whether a new snapshot may have this parent: none, or a snapshot of the table.
+    pub fn knows_parent(&self, parent: Option<i64>) -> bool
+        ensures { IsTrue result ↔ IsKnownParent (snapshots_of (view self.now)) parent }
+    {
+        match parent {
+            Some(id) => self.has_snapshot(id),
+            None => true,
+        }
+    }
+
+    /// The metadata with a new snapshot, whose summary has these texts beside its operation, and with `main` at it since
+    /// the moment `ms` or, where that is later, the metadata's own. `last-sequence-number` becomes the snapshot's. Every
+    /// other field stays (Iceberg table specification, Snapshots).
+    pub fn with_snapshot(
+        &self,
+        alloc: Global,
+        snapshot: &Snapshot,
+        summary: &PairTexts,
+        ms: u64,
+    ) -> Result<Meta, AllocError>
+        requires texts { IsTextual snapshot.now summary.now }
+        requires id { IsNewId (snapshots_of (view self.now)) snapshot.now.id }
+        requires parent { IsKnownParent (snapshots_of (view self.now)) snapshot.now.parent }
+        requires schema { IsIntOrNone snapshot.now.schema_id }
+        requires made { snapshot.now.ms < 2 ^ 63 }
+        requires moment { ms < 2 ^ 63 }
+        ensures ok { IfOk result (λ m. view m ≡ with_snapshot snapshot.now summary.now ms (view self.now)) }
+        ensures snapshots { IfOk result (λ m. snapshots_of (view m) ≡ snapshots_of (view self.now) ++ snapshot.now ∷ []) }
+        ensures stays { IfOk result (λ m. OthersStay added_fields (view self.now) (view m)) }
+    {
+        numbers_fit(snapshot);
+        let copy = copied(&self.tree)?;
+        with_snapshot(alloc, copy, snapshot, summary, ms)
+    }
+
+    /// The same metadata with the snapshot, as `with_snapshot` says, without a copy.
+    pub fn into_with_snapshot(
+        self,
+        alloc: Global,
+        snapshot: &Snapshot,
+        summary: &PairTexts,
+        ms: u64,
+    ) -> Result<Meta, AllocError>
+        requires texts { IsTextual snapshot.now summary.now }
+        requires id { IsNewId (snapshots_of (view self)) snapshot.now.id }
+        requires parent { IsKnownParent (snapshots_of (view self)) snapshot.now.parent }
+        requires schema { IsIntOrNone snapshot.now.schema_id }
+        requires made { snapshot.now.ms < 2 ^ 63 }
+        requires moment { ms < 2 ^ 63 }
+        ensures { IfOk result (λ m. view m ≡ with_snapshot snapshot.now summary.now ms (view self)) }
+    {
+        with_snapshot(alloc, self.into_tree(), snapshot, summary, ms)
+    }
+
+    /// Whether the snapshots of these ids may go with the refs of these names: `main` isn't among the names, and neither
+    /// the current snapshot nor that of a ref which stays is among the ids.
+    pub fn can_lose(&self, ids: &IdList, refs: &TextList) -> bool
+        ensures { IsTrue result ↔ CanLose ids.now refs.now (view self.now) }
+    {
+        let (ids, names) = (ids.inner().as_slice(), refs.inner().as_slice());
+        !has_name(names, b"main")
+            && is_kept(ids, self.typed.current)
+            && leaves_whole(ids, names, self.typed.refs.inner())
+    }
+
+    /// The metadata without the snapshots of these ids, their items of `statistics` and `partition-statistics`, the refs
+    /// of these names, and the items of `snapshot-log` up to the last one of such a snapshot. No ref that stays names
+    /// such a snapshot, and `main` stays. Every other field stays (Iceberg table specification, Snapshots).
+    pub fn without_snapshots(
+        &self,
+        alloc: Global,
+        ids: &IdList,
+        refs: &TextList,
+    ) -> Result<Meta, AllocError>
+        requires whole { CanLose ids.now refs.now (view self.now) }
+        ensures ok { IfOk result (λ m. view m ≡ without_snapshots ids.now refs.now (view self.now)) }
+        ensures stays { IfOk result (λ m. OthersStay taken_fields (view self.now) (view m)) }
+    {
+        let copy = copied(&self.tree)?;
+        without_snapshots(alloc, copy, ids, refs)
+    }
+
+    /// The same metadata without the snapshots, as `without_snapshots` says, without a copy.
+    pub fn into_without_snapshots(
+        self,
+        alloc: Global,
+        ids: &IdList,
+        refs: &TextList,
+    ) -> Result<Meta, AllocError>
+        requires whole { CanLose ids.now refs.now (view self) }
+        ensures { IfOk result (λ m. view m ≡ without_snapshots ids.now refs.now (view self)) }
+    {
+        without_snapshots(alloc, self.into_tree(), ids, refs)
     }
 
     // The typed view goes before an edit makes a new one.

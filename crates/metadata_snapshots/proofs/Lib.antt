@@ -1,0 +1,5 @@
+pub mod AddedLaws
+pub mod FieldLaws
+pub mod ListLaws
+pub mod SetLaws
+pub mod TakenLaws
