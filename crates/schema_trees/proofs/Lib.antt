@@ -1,0 +1,6 @@
+mod Again
+mod Found
+mod Lists
+mod Public
+mod Rewritten
+mod WordLaws

@@ -1,0 +1,5 @@
+pub mod Ids
+pub mod Words
+pub mod Reading
+pub mod Spelling
+pub mod Writing
