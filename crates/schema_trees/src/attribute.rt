@@ -5,6 +5,7 @@ ghost use Rattle.serde_json.specs.Find.{get, as_array};
 ghost use Rattle.avro_schema.specs.Attribute.{text_at, id_at, narrow_signed};
 ghost use Rattle.schema_trees.specs.Ids.{is_seen};
 ghost use Rattle.schema_trees.specs.Reading.{Gives, Reads, int_in, text_in, new_id};
+ghost use Rattle.schema_trees.specs.TypeReading.{flag_in};
 
 use crate::fault::JsonErr;
 use crate::path::fault_at;
@@ -57,6 +58,17 @@ pub(crate) fn text_in(alloc: Global, tree: &Value, path: &str, key: &str) -> Res
 {
     match text_at(tree, key) {
         Some(text) => Ok(Text::new(String::from_str(alloc, text)?)),
+        None => Err(fault_at(alloc, path, key)),
+    }
+}
+
+/// A truth.
+#[tactic(auto, unfolding(crate::specs::TypeReading::flag_in))]
+pub(crate) fn flag_in(alloc: Global, tree: &Value, path: &str, key: &str) -> Result<bool, JsonErr>
+    ensures { Gives result (flag_in path.now key.now (view tree.now)) }
+{
+    match tree.get(key).and_then(Value::as_bool) {
+        Some(flag) => Ok(flag),
         None => Err(fault_at(alloc, path, key)),
     }
 }

@@ -35,7 +35,7 @@ fn put_text(
     serde_json::put(members, alloc, key, Value::String(text))
 }
 
-fn put_int(
+pub(crate) fn put_int(
     members: &mut Map<String, Value>,
     alloc: Global,
     key: &str,

@@ -6,7 +6,7 @@ use schema_types::Transform;
 use std::alloc::{AllocError, Global};
 
 /// The number below 2^32 that the text is, without a sign or a zero before its digits.
-fn number_of(alloc: Global, text: &str) -> Result<Option<u32>, AllocError>
+pub(crate) fn number_of(alloc: Global, text: &str) -> Result<Option<u32>, AllocError>
     ensures { IfOk result (λ o. o ≡ number_of text.now) }
 {
     let Ok(number) = text.parse::<u32>() else {
@@ -21,7 +21,7 @@ fn number_of(alloc: Global, text: &str) -> Result<Option<u32>, AllocError>
 }
 
 /// The number that the text is before its last character, which is this one.
-fn number_before(alloc: Global, text: &str, closing: char) -> Result<Option<u32>, AllocError>
+pub(crate) fn number_before(alloc: Global, text: &str, closing: char) -> Result<Option<u32>, AllocError>
     requires { closing < 128 }
     ensures { IfOk result (λ o. o ≡ number_before closing text.now) }
 {
