@@ -1,0 +1,4 @@
+mod SizeLaws
+mod Looking
+mod SourceLists
+mod FieldLookup
