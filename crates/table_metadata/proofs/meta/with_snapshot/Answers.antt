@@ -1,5 +1,4 @@
-use Rattle.std.proofs.Common.{◌≡◌, ◌≤◌, ℤ, pos, Option, Some, None, unwrap_or, FitsSigned, w64, ap, ◌∙◌}
-use Rattle.serde_json.specs.Find.{as_i64, of_integer}
+use Rattle.std.proofs.Common.{◌≡◌, ap, ◌∙◌}
 use Rattle.serde_json.specs.View.{view}
 use Rattle.metadata_form.proofs.FormLaws.{fits_i64}
 use Rattle.metadata_view.proofs.SoundLaws.{sound, no_fault}

@@ -1,4 +1,4 @@
-use Rattle.std.proofs.Common.{◌≡◌, ◌≤◌, ap, ◌∙◌}
+use Rattle.std.proofs.Common.{◌≡◌, ap, ◌∙◌}
 use Rattle.serde_json.specs.View.{view}
 use Rattle.metadata_view.proofs.SoundLaws.{sound, no_fault}
 use Rattle.metadata_snapshots.specs.Edits.{without_snapshots}
