@@ -1,9 +1,8 @@
 -- What the edit that adds a snapshot keeps: metadata stays well-formed, and its list has one more.
-use Rattle.std.proofs.Common.{◌≡◌, ◌≢◌, ℕ, suc, ℤ, pos, negsuc, ◌<◌, ◌≤◌, ◌^◌, ◌++◌, map, List, [], ◌∷◌, Bool, true, false, cond, codes, bytes_eq, Option, Some, None, is_some, option_map, option_and_then, unwrap_or, refl, sym, ap, ◌∙◌, subst}
+use Rattle.std.proofs.Common.{◌≡◌, ◌≢◌, ℕ, suc, ℤ, pos, negsuc, ◌<◌, ◌≤◌, ◌^◌, ◌++◌, map, List, [], ◌∷◌, Bool, true, false, cond, codes, bytes_eq, Option, Some, None, is_some, option_map, option_and_then, unwrap_or, refl, ap, ◌∙◌, subst}
 use Rattle.std.proofs.lemmas.List.{map-append}
-use Rattle.std.specs.Ordering.{int_eq}
 use Rattle.serde_json.specs.Data.{Data, number, string, array, object, unsigned, Members, no_members, member, put, depth}
-use Rattle.serde_json.specs.Find.{get, of_integer, as_i64, as_u64, as_str, as_number, as_integer, as_object}
+use Rattle.serde_json.specs.Find.{get, of_integer, as_i64, as_str, as_number, as_integer, as_object}
 use Rattle.serde_json.specs.View.{items_of}
 use Rattle.serde_json.proofs.Views.{get_member-put}
 use Rattle.metadata_json.specs.Edits.{set, add}
@@ -16,11 +15,11 @@ use Rattle.metadata_form.specs.declared.fields.Need.TheVariants.{Required, Optio
 use Rattle.metadata_form.specs.declared.key.Key.TheVariants as Key
 use Rattle.metadata_form.specs.declared.rules.Rule.TheVariants as rule
 use Rattle.metadata_form.specs.Path.{in_member, itself_unless}
-use Rattle.metadata_form.specs.Form.{misfit, unless_minus_one, is_int_number, int_if, summary_fault, text_fault, object_fault, members_fault, items_fault, array_fault}
+use Rattle.metadata_form.specs.Form.{misfit, unless_minus_one, is_int_number, int_if, summary_fault, text_fault, members_fault, items_fault, array_fault}
 use Rattle.metadata_form.specs.Fields.{field, field_fault, fields_fault, record_fault, found_fault, rule_fault, rules_fault, metadata_rules, snapshot_fields}
 use Rattle.metadata_form.specs.Fault.{unless_2, list_fault}
 use Rattle.metadata_form.proofs.FormLaws.{no-both, record-whole, items-push, array-items, members-put, found-value, rules-set}
-use Rattle.metadata_view.specs.View.{current_of, snapshots_of, snapshots_in, snapshot_of, main_ref, operation_of}
+use Rattle.metadata_view.specs.View.{current_of, snapshots_of, snapshot_of, main_ref, operation_of}
 use Rattle.metadata_view.specs.Walk.{snapshot_with, first_return}
 use Rattle.metadata_view.specs.Index.{first_double}
 use Rattle.metadata_view.specs.Links.{ref_fault}

@@ -1,5 +1,5 @@
 -- Values that fit the fields of metadata, and refs that name snapshots.
-use Rattle.std.proofs.Common.{◌≡◌, ℕ, ◌<◌, ◌^◌, ℤ, List, [], Bool, true, false, not, ◌&&◌, ◌||◌, cond, codes, drop, Option, Some, None, is_some, option_map, option_and_then, refl, ap, ◌∙◌}
+use Rattle.std.proofs.Common.{◌≡◌, ℕ, ◌<◌, ◌^◌, ℤ, List, [], Bool, true, false, not, ◌&&◌, ◌||◌, cond, codes, drop, Option, Some, None, is_some, option_map, refl, ap, ◌∙◌}
 use Rattle.std.specs.Option.{option_or}
 use Rattle.serde_json.specs.Data.{Data, number, string, unsigned, Members, no_members, member}
 use Rattle.serde_json.specs.Find.{get, of_integer, as_i64, as_object}

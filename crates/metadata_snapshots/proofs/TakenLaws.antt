@@ -1,6 +1,6 @@
 -- What the edit that takes snapshots away keeps: metadata stays well-formed.
-use Rattle.std.proofs.Common.{◌≡◌, ◌≢◌, ℕ, zero, suc, ℤ, ◌≤◌, map, drop, List, [], ◌∷◌, Bool, true, false, not, ◌&&◌, ◌||◌, cond, codes, bytes_eq, Option, Some, None, is_some, option_map, option_and_then, Ordering, Less, Equal, Greater, is_eq, true≢false, refl, sym, ap, ◌∙◌, subst, arith}
-use Rattle.std.specs.List.{filter, list_any, AllByRecursion}
+use Rattle.std.proofs.Common.{◌≡◌, ℕ, suc, ℤ, ◌≤◌, map, drop, List, [], ◌∷◌, Bool, true, false, not, ◌&&◌, ◌||◌, cond, codes, bytes_eq, Option, Some, None, is_some, option_map, option_and_then, Ordering, Less, Equal, Greater, is_eq, true≢false, refl, sym, ap, ◌∙◌, arith}
+use Rattle.std.specs.List.{list_any, AllByRecursion}
 use Rattle.std.specs.Ordering.{nat_cmp, match_ordering}
 use Rattle.std.specs.Cmp.Lexicographic.{slice_cmp}
 use Rattle.std.proofs.lemmas.Slice.Eq.{bytes_eq-Decides}
@@ -19,7 +19,7 @@ use Rattle.metadata_form.specs.Form.{unless_minus_one, items_fault, array_fault,
 use Rattle.metadata_form.specs.Fields.{record_fault, found_fault, rule_fault, rules_fault, metadata_rules, snapshot_fields, snapshot_log_fields, partition_statistics_fields, statistics_fault, ref_fields}
 use Rattle.metadata_form.specs.Fault.{unless_2, list_fault}
 use Rattle.metadata_form.proofs.FormLaws.{KeepAll, no-parts, no-both, no-within, or-false, items-in, array-items, rules-set, rules-drop, first-rule}
-use Rattle.metadata_view.specs.View.{current_of, snapshots_of, snapshot_of, main_ref, refs_of, refs_in, ref_of, refs_tree, with_main, new_branch}
+use Rattle.metadata_view.specs.View.{current_of, snapshots_of, snapshot_of, main_ref, refs_of, refs_in, ref_of, with_main, new_branch}
 use Rattle.metadata_view.specs.Walk.{snapshot_with, has_id, first_return}
 use Rattle.metadata_view.specs.Index.{first_double}
 use Rattle.metadata_view.specs.Links.{is_main, main_agrees, current_fault, is_whole_ref, first_broken, refs_fault, ref_fault}

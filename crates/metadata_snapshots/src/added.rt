@@ -144,5 +144,10 @@ pub fn with_listed(
 {
     let item = snapshot_tree(alloc, snapshot, texts)?;
     let longer = add(alloc, tree, "snapshots", item)?;
-    set(alloc, longer, "last-sequence-number", Value::from(snapshot.sequence))
+    set(
+        alloc,
+        longer,
+        "last-sequence-number",
+        Value::from(snapshot.sequence),
+    )
 }

@@ -1,7 +1,6 @@
 -- What the edits keep: metadata stays well-formed.
 use Rattle.std.proofs.Common.{◌≡◌, ◌≢◌, ℕ, suc, ℤ, pos, negsuc, ◌≤◌, ◌<◌, ◌-◌, ◌^◌, ◌++◌, length, drop, List, [], ◌∷◌, Bool, true, false, not, ◌&&◌, ◌||◌, cond, codes, Option, Some, None, is_some, option_map, option_and_then, map, unwrap_or, FitsSigned, w64, refl, sym, ap, ◌∙◌, subst, arith, true≢false, bytes_eq, Ordering, Less, Equal, Greater, is_eq}
 use Rattle.std.specs.Prelude.{nat_lt}
-use Rattle.std.specs.Option.{option_or}
 use Rattle.std.specs.Ordering.{int_eq, nat_cmp, match_ordering}
 use Rattle.std.specs.Cmp.Lexicographic.{slice_cmp}
 use Rattle.std.proofs.lemmas.Slice.Eq.{bytes_eq-Decides}
@@ -15,7 +14,7 @@ use Rattle.serde_json.specs.View.{items_of}
 use Rattle.metadata_json.specs.Fields.{signed, items_in, items_at, members_in, members_at, signed_at, unsigned as whole}
 use Rattle.metadata_json.specs.Edits.{set, object_at, add, add_within, last}
 use Rattle.metadata_json.proofs.Laws.{IsTame, get-set, get-set_other, get-add_other, get-add_within, get-add_within_other, get-members, members-set, members-object_at, tame-member, tame-object, tame-none, tame-set, tame-integer, tame-text, tame-unsigned, tame-get, tame-object_at, tame-add, tame-add_within}
-use Rattle.metadata_form.specs.declared.form.Form.TheVariants.{SnapshotId, Long, Moment, RefType, Text}
+use Rattle.metadata_form.specs.declared.form.Form.TheVariants.{SnapshotId, Long, Moment, RefType}
 use Rattle.metadata_form.specs.declared.fields.Need.TheVariants.{Required, Optional}
 use Rattle.metadata_form.specs.declared.key.Key.TheVariants as Key
 use Rattle.metadata_form.specs.declared.rules.Rule.TheVariants as rule
@@ -33,7 +32,7 @@ use Rattle.metadata_snapshots.proofs.AddedLaws.{FitsFields, get-listed_other, sn
 use Rattle.table_metadata.specs.Conditions.{OthersStay, added_fields, taken_fields}
 use Rattle.table_metadata.specs.Edits.{with_snapshot, moved_ref, with_moved_ref, snapshot_log_item, with_current, moment_of, with_ref, metadata_log_item, with_previous, next_keeping}
 use Rattle.metadata_view.specs.declared.types.Snapshot.{Snapshot}
-use Rattle.metadata_form.proofs.FormLaws.{no-parts, no-both, no-within, or-true, record-parts, record-whole, record-set, fields-drop, first-field, items-push, items-drop, items-in, array-items, members-in, members-put, members-found, found-value, rules-set, rules-drop, first-rule, moment_i64, fits_i64, or-false}
+use Rattle.metadata_form.proofs.FormLaws.{no-parts, no-both, no-within, or-true, record-parts, record-whole, record-set, fields-drop, first-field, items-push, items-drop, items-in, array-items, members-in, members-put, members-found, found-value, rules-set, rules-drop, first-rule, fits_i64, or-false}
 use Rattle.metadata_view.proofs.SoundLaws.{IsSound}
 use Rattle.metadata_view.specs.Index.{first_double}
 use Rattle.metadata_snapshots.proofs.FieldLaws.{fits-id, fits-moment, is-moment, is_text, object-set, snapshots-in, whole-parts, whole-on, refs-same}

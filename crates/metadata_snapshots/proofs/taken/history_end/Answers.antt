@@ -1,11 +1,10 @@
-use Rattle.std.proofs.Common.{◌≡◌, ◌+◌, ◌-◌, ◌∷◌, drop, map, true, false, Bool, not, ap, sym, refl, ◌∙◌, arith}
+use Rattle.std.proofs.Common.{◌≡◌, ◌+◌, ◌-◌, ◌∷◌, drop, map, true, ap, sym, ◌∙◌, arith}
 use Rattle.std.specs.List.{list_any}
 use Rattle.std.proofs.lemmas.List.{drop_more, drop-map}
 use Rattle.serde_json.specs.View.{view}
 use Rattle.metadata_snapshots.specs.Sets.{is_in}
 use Rattle.metadata_snapshots.proofs.SetLaws.{after-none, after-end}
 use Rattle.metadata_snapshots.proofs.taken.history_end.Goals as goal
-
 
 pub returns-else-not-is_in-clause-rest : goal.returns-else-not-is_in-clause-rest
 returns-else-not-is_in-clause-rest c =
