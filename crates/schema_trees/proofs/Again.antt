@@ -63,10 +63,10 @@ field_again path d seen f s new =
     let object = there (codes "name") d as_str f.name s.is_name in
     let made : ℤ × List ℤ → List ℕ → ℤ → Transform → Read SpecField = λ id name source transform. Ok (record { field_id = id.0; source_id = source; name = name; transform = transform }, id.1) in
     let behind : ℤ × List ℤ → Read SpecField = λ id.
-        wanted (key_path path (codes "name")) (text_at (codes "name") d) >>= λ name.
-        wanted (key_path path (codes "source-id")) (id_at (codes "source-id") d) >>= λ source.
-        wanted (key_path path (codes "transform")) (text_at (codes "transform") d) >>= λ word.
-        made id name source (transform_of word) in
+    wanted (key_path path (codes "name")) (text_at (codes "name") d) >>= λ name.
+    wanted (key_path path (codes "source-id")) (id_at (codes "source-id") d) >>= λ source.
+    wanted (key_path path (codes "transform")) (text_at (codes "transform") d) >>= λ word.
+    made id name source (transform_of word) in
     let id : ℤ × List ℤ = (f.field_id, seen ++ (f.field_id ∷ [])) in
     object_is path d (codes "name") object.0 (new_id path (codes "field-id") d seen >>= behind) object.1
     ∙ ap (λ r. r >>= behind) (new_again path (codes "field-id") d seen f.field_id s.is_field_id new.0)

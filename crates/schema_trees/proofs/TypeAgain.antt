@@ -48,10 +48,10 @@ module _ (P : Data → ColType → Type 0) (type : Reader ColType) (h : IsRead P
       let news : AreNew seen (c.id ∷ type_ids c.ty) = subst (AreNew seen) ids new in
       let last : ℤ × List ℤ → List ℕ → Bool → ColType × List ℤ → Read Column = λ id name required ty. Ok (record { id = id.0; name = name; required = required; ty = ty.0 }, ty.1) in
       let behind_id : ℤ × List ℤ → Read Column = λ id.
-          text_in path (codes "name") d >>= λ name.
-          flag_in path (codes "required") d >>= λ required.
-          inner_at type path (codes "type") d id.1 >>= λ ty.
-          last id name required ty in
+      text_in path (codes "name") d >>= λ name.
+      flag_in path (codes "required") d >>= λ required.
+      inner_at type path (codes "type") d id.1 >>= λ ty.
+      last id name required ty in
       let id : ℤ × List ℤ = (c.id, own) in
       object_is path d (codes "name") object_there.0 (new_id path (codes "id") d seen >>= behind_id) object_there.1
       ∙ ap (λ r. r >>= behind_id) (new_again path (codes "id") d seen c.id s.is_id news.0)
@@ -86,9 +86,9 @@ module _ (P : Data → ColType → Type 0) (type : Reader ColType) (h : IsRead P
         let last : ColType × List ℤ → ℤ × List ℤ → Bool → Read ColType = λ element id required. Ok (ListOf id.0 required element.0, id.1) in
         object_level (codes "list") is
         ∙ ap (λ r. r >>= λ element. new_id path (codes "element-id") d element.1 >>= λ id. flag_in path (codes "element-required") d >>= λ required. last element id required)
-          (inner_again path (codes "element") d e seen element is_there spelled (new-front seen (type_ids element) (id ∷ []) news))
+        (inner_again path (codes "element") d e seen element is_there spelled (new-front seen (type_ids element) (id ∷ []) news))
         ∙ ap (λ r. r >>= λ id. flag_in path (codes "element-required") d >>= λ required. last (element, between) id required)
-          (new_again path (codes "element-id") d between id is_id (new-back seen (type_ids element) (id ∷ []) news).0)
+        (new_again path (codes "element-id") d between id is_id (new-back seen (type_ids element) (id ∷ []) news).0)
         ∙ ap (λ r. r >>= λ required. last (element, between) (id, between ++ (id ∷ [])) required) (flag_again path (codes "element-required") d required is_required)
         ∙ ap (λ (k : List ℤ). Ok (ListOf id required element, k)) (append_assoc seen (type_ids element) (id ∷ []) ∙ ap (λ k. seen ++ k) (sym ids))
         ∙ ap (λ (u : ColType). Ok (u, seen ++ type_ids t)) (sym same)
@@ -109,16 +109,16 @@ module _ (P : Data → ColType → Type 0) (type : Reader ColType) (h : IsRead P
         let last : ColType × List ℤ → ℤ × List ℤ → ColType × List ℤ → ℤ × List ℤ → Bool → Read ColType = λ key key_id value value_id required. Ok (Map key_id.0 key.0 value_id.0 required value.0, value_id.1) in
         object_level (codes "map") is
         ∙ ap (λ r. r >>= λ key. new_id path (codes "key-id") d key.1 >>= λ key_id. inner_at type path (codes "value") d key_id.1 >>= λ value. new_id path (codes "value-id") d value.1 >>= λ value_id. flag_in path (codes "value-required") d >>= λ required. last key key_id value value_id required)
-          (inner_again path (codes "key") d k seen key is_key key_spelled (new-front seen (type_ids key) (key_id ∷ lasts) news))
+        (inner_again path (codes "key") d k seen key is_key key_spelled (new-front seen (type_ids key) (key_id ∷ lasts) news))
         ∙ ap (λ r. r >>= λ key_id. inner_at type path (codes "value") d key_id.1 >>= λ value. new_id path (codes "value-id") d value.1 >>= λ value_id. flag_in path (codes "value-required") d >>= λ required. last (key, one) key_id value value_id required)
-          (new_again path (codes "key-id") d one key_id is_key_id rest.0)
+        (new_again path (codes "key-id") d one key_id is_key_id rest.0)
         ∙ ap (λ r. r >>= λ value. new_id path (codes "value-id") d value.1 >>= λ value_id. flag_in path (codes "value-required") d >>= λ required. last (key, one) (key_id, two) value value_id required)
-          (inner_again path (codes "value") d v two value is_value value_spelled (new-front two (type_ids value) ends rest.1))
+        (inner_again path (codes "value") d v two value is_value value_spelled (new-front two (type_ids value) ends rest.1))
         ∙ ap (λ r. r >>= λ value_id. flag_in path (codes "value-required") d >>= λ required. last (key, one) (key_id, two) (value, three) value_id required)
-          (new_again path (codes "value-id") d three value_id is_value_id (new-back two (type_ids value) ends rest.1).0)
+        (new_again path (codes "value-id") d three value_id is_value_id (new-back two (type_ids value) ends rest.1).0)
         ∙ ap (λ r. r >>= λ required. last (key, one) (key_id, two) (value, three) (value_id, three ++ ends) required) (flag_again path (codes "value-required") d required is_required)
         ∙ ap (λ (s : List ℤ). Ok (Map key_id key value_id required value, s))
-          (append_assoc two (type_ids value) ends ∙ append_assoc one (key_id ∷ []) lasts ∙ append_assoc seen (type_ids key) (key_id ∷ lasts) ∙ ap (λ s. seen ++ s) (sym ids))
+        (append_assoc two (type_ids value) ends ∙ append_assoc one (key_id ∷ []) lasts ∙ append_assoc seen (type_ids key) (key_id ∷ lasts) ∙ ap (λ s. seen ++ s) (sym ids))
         ∙ ap (λ (u : ColType). Ok (u, seen ++ type_ids t)) (sym same)
 
     struct_again : (ds : Items) (columns : List Column) → text_at (codes "type") d ≡ Some (codes "struct") → option_and_then as_array (get (codes "fields") d) ≡ Some ds

@@ -113,7 +113,7 @@ leaf t =
     leaf-or (plain t) (option_or (fixed_of t) (decimal_of t)) (leaf-plain t)
     (leaf-or (fixed_of t) (decimal_of t) (leaf-fixed (before_first (λ b. b == 91) t) (number_before 93 (after_first (λ b. b == 91) t)))
     (leaf-cond (bytes_eq (before_first (λ b. b == 40) t) (codes "decimal")) (numbers_of (after_first (λ b. b == 40) t)) None
-        (leaf-decimal (number_of (before_first (λ b. b == 44) (after_first (λ b. b == 40) t))) (number_before 41 (behind_space (after_first (λ b. b == 44) (after_first (λ b. b == 40) t))))) tt))
+    (leaf-decimal (number_of (before_first (λ b. b == 44) (after_first (λ b. b == 40) t))) (number_before 41 (behind_space (after_first (λ b. b == 44) (after_first (λ b. b == 40) t))))) tt))
 
 pub ids-primitive : (word : List ℕ) (t : ColType) → primitive word ≡ Some t → type_ids t ≡ []
 ids-primitive word t e = subst IsLeaf e (leaf word)

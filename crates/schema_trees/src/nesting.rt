@@ -5,5 +5,4 @@ ghost use Rattle.schema_trees.specs.Nesting.{LimitIsEnough};
 #[tactic(auto, using(crate::proofs::NestingLaws::limit_is_enough))]
 pub fn limit_is_enough()
     ensures { LimitIsEnough }
-{
-}
+{}

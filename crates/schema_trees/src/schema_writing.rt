@@ -170,13 +170,7 @@ fn write_columns(alloc: Global, columns: &[Column]) -> Result<Vec<Value>, AllocE
     let mut trees = Vec::with_capacity(alloc, columns.len())?;
     for column in columns {
         let ty = write_type(alloc, &column.ty)?;
-        trees.push(column_object(
-            alloc,
-            column.id,
-            column.name.as_str(),
-            column.required,
-            ty,
-        )?)?;
+        trees.push(column_object(alloc, column.id, column.name.as_str(), column.required, ty)?)?;
     }
     Ok(trees)
 }

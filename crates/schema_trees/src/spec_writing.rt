@@ -54,7 +54,12 @@ fn field_tree(alloc: Global, field: &SpecField) -> Result<Value, AllocError>
     put_int(&mut members, alloc, "field-id", field.field_id)?;
     put_text(&mut members, alloc, "name", field.name.copy()?.into_inner())?;
     put_int(&mut members, alloc, "source-id", field.source_id)?;
-    put_text(&mut members, alloc, "transform", transform_text(alloc, field.transform)?)?;
+    put_text(
+        &mut members,
+        alloc,
+        "transform",
+        transform_text(alloc, field.transform)?,
+    )?;
     Ok(Value::Object(members))
 }
 

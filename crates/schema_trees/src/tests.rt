@@ -90,7 +90,9 @@ fn schemas_are_written_in_one_form(rt: HostRuntime) -> Result<(), Fail> {
 
 // A schema of one column, whose type's text goes between these.
 fn with_type(alloc: Global, ty: &str) -> Result<String, Fail> {
-    Ok(format!(in alloc; "{{\"fields\":[{{\"id\":1,\"name\":\"a\",\"required\":true,\"type\":{ty}}}],\"schema-id\":0,\"type\":\"struct\"}}")?)
+    Ok(format!(in alloc;
+        "{{\"fields\":[{{\"id\":1,\"name\":\"a\",\"required\":true,\"type\":{ty}}}],\"schema-id\":0,\"type\":\"struct\"}}"
+    )?)
 }
 
 fn bad_types() -> [(&'static str, &'static str); 22] {
@@ -111,12 +113,30 @@ fn bad_types() -> [(&'static str, &'static str); 22] {
         ("[]", "fields[0].type"),
         ("{}", "fields[0].type.type"),
         (r#"{"type":"long"}"#, "fields[0].type.type"),
-        (r#"{"type":"list","element":"int","element-required":true}"#, "fields[0].type.element-id"),
-        (r#"{"type":"list","element-id":2,"element":"int","element-required":"true"}"#, "fields[0].type.element-required"),
-        (r#"{"type":"list","element-id":1,"element":"int","element-required":true}"#, "fields[0].type.element-id"),
-        (r#"{"type":"map","key-id":2,"key":"int","value-id":2,"value":"int","value-required":true}"#, "fields[0].type.value-id"),
-        (r#"{"type":"map","key-id":2,"key":"int","value-id":3,"value":{"type":"list","element-id":3,"element":"x","element-required":true},"value-required":true}"#, "fields[0].type.value.element"),
-        (r#"{"type":"struct","fields":[{"id":2,"name":"b","required":true,"type":"int"},{"id":2,"name":"c","required":true,"type":"int"}]}"#, "fields[0].type.fields[1].id"),
+        (
+            r#"{"type":"list","element":"int","element-required":true}"#,
+            "fields[0].type.element-id",
+        ),
+        (
+            r#"{"type":"list","element-id":2,"element":"int","element-required":"true"}"#,
+            "fields[0].type.element-required",
+        ),
+        (
+            r#"{"type":"list","element-id":1,"element":"int","element-required":true}"#,
+            "fields[0].type.element-id",
+        ),
+        (
+            r#"{"type":"map","key-id":2,"key":"int","value-id":2,"value":"int","value-required":true}"#,
+            "fields[0].type.value-id",
+        ),
+        (
+            r#"{"type":"map","key-id":2,"key":"int","value-id":3,"value":{"type":"list","element-id":3,"element":"x","element-required":true},"value-required":true}"#,
+            "fields[0].type.value.element",
+        ),
+        (
+            r#"{"type":"struct","fields":[{"id":2,"name":"b","required":true,"type":"int"},{"id":2,"name":"c","required":true,"type":"int"}]}"#,
+            "fields[0].type.fields[1].id",
+        ),
     ]
 }
 
@@ -137,13 +157,28 @@ fn bad_schemas() -> [(&'static str, &'static str); 11] {
         ("{}", "fields"),
         (r#"{"fields":{},"schema-id":0,"type":"struct"}"#, "fields"),
         (r#"{"fields":[]}"#, "schema-id"),
-        (r#"{"fields":[],"schema-id":2147483648,"type":"struct"}"#, "schema-id"),
+        (
+            r#"{"fields":[],"schema-id":2147483648,"type":"struct"}"#,
+            "schema-id",
+        ),
         (r#"{"fields":[],"schema-id":0}"#, "type"),
         (r#"{"fields":[],"schema-id":0,"type":"list"}"#, "type"),
-        (r#"{"fields":[3],"schema-id":0,"type":"struct"}"#, "fields[0]"),
-        (r#"{"fields":[{"id":1.0,"name":"a","required":true,"type":"int"}],"schema-id":0,"type":"struct"}"#, "fields[0].id"),
-        (r#"{"fields":[{"id":1,"required":1,"type":"int"}],"schema-id":0,"type":"struct"}"#, "fields[0].name"),
-        (r#"{"fields":[{"id":1,"name":"a","required":1}],"schema-id":0,"type":"struct"}"#, "fields[0].required"),
+        (
+            r#"{"fields":[3],"schema-id":0,"type":"struct"}"#,
+            "fields[0]",
+        ),
+        (
+            r#"{"fields":[{"id":1.0,"name":"a","required":true,"type":"int"}],"schema-id":0,"type":"struct"}"#,
+            "fields[0].id",
+        ),
+        (
+            r#"{"fields":[{"id":1,"required":1,"type":"int"}],"schema-id":0,"type":"struct"}"#,
+            "fields[0].name",
+        ),
+        (
+            r#"{"fields":[{"id":1,"name":"a","required":1}],"schema-id":0,"type":"struct"}"#,
+            "fields[0].required",
+        ),
     ]
 }
 
@@ -159,7 +194,9 @@ fn the_first_fault_of_a_schema_counts(rt: HostRuntime) -> Result<(), Fail> {
 
 // A spec of one field with this transform.
 fn with_transform(alloc: Global, transform: &str) -> Result<String, Fail> {
-    Ok(format!(in alloc; "{{\"fields\":[{{\"field-id\":1000,\"name\":\"p\",\"source-id\":1,\"transform\":\"{transform}\"}}],\"spec-id\":0}}")?)
+    Ok(format!(in alloc;
+        "{{\"fields\":[{{\"field-id\":1000,\"name\":\"p\",\"source-id\":1,\"transform\":\"{transform}\"}}],\"spec-id\":0}}"
+    )?)
 }
 
 fn transforms() -> [(&'static str, &'static str); 15] {
@@ -216,10 +253,22 @@ fn bad_specs() -> [(&'static str, &'static str); 8] {
         (r#"{"spec-id":0}"#, "fields"),
         (r#"{"fields":[]}"#, "spec-id"),
         (r#"{"fields":[[]],"spec-id":0}"#, "fields[0]"),
-        (r#"{"fields":[{"name":"p","source-id":1,"transform":"day"}],"spec-id":0}"#, "fields[0].field-id"),
-        (r#"{"fields":[{"field-id":1000,"name":1,"source-id":1}],"spec-id":0}"#, "fields[0].name"),
-        (r#"{"fields":[{"field-id":1000,"name":"p","source-id":"1"}],"spec-id":0}"#, "fields[0].source-id"),
-        (r#"{"fields":[{"field-id":7,"name":"p","source-id":1,"transform":"day"},{"field-id":7,"name":"q","source-id":1,"transform":4}],"spec-id":0}"#, "fields[1].field-id"),
+        (
+            r#"{"fields":[{"name":"p","source-id":1,"transform":"day"}],"spec-id":0}"#,
+            "fields[0].field-id",
+        ),
+        (
+            r#"{"fields":[{"field-id":1000,"name":1,"source-id":1}],"spec-id":0}"#,
+            "fields[0].name",
+        ),
+        (
+            r#"{"fields":[{"field-id":1000,"name":"p","source-id":"1"}],"spec-id":0}"#,
+            "fields[0].source-id",
+        ),
+        (
+            r#"{"fields":[{"field-id":7,"name":"p","source-id":1,"transform":"day"},{"field-id":7,"name":"q","source-id":1,"transform":4}],"spec-id":0}"#,
+            "fields[1].field-id",
+        ),
     ]
 }
 

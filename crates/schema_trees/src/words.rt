@@ -21,7 +21,11 @@ pub(crate) fn number_of(alloc: Global, text: &str) -> Result<Option<u32>, AllocE
 }
 
 /// The number that the text is before its last character, which is this one.
-pub(crate) fn number_before(alloc: Global, text: &str, closing: char) -> Result<Option<u32>, AllocError>
+pub(crate) fn number_before(
+    alloc: Global,
+    text: &str,
+    closing: char,
+) -> Result<Option<u32>, AllocError>
     requires { closing < 128 }
     ensures { IfOk result (λ o. o ≡ number_before closing text.now) }
 {

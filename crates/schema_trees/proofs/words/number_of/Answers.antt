@@ -19,7 +19,7 @@ pub returns : goal.returns
 returns c =
     let written : c.as_str.result.now ≡ decimal c.in-Ok.number = c.as_str.ensures.value ∙ c.in_ok-written.ensures.ok in
     sym (number_none c.args.text.now c.parse.result c.parse.ensures.value.0 (λ n ok is.
-        let same : c.in-Ok.number ≡ n = (let read = c.in-Ok.is in cc) in
-        let yes = (bytes_eq-Decides c.as_str.result.now c.args.text.now).1 (written ∙ ap decimal same ∙ sym is) in
-        let no = c.if-eq.ensures in
-        cc))
+    let same : c.in-Ok.number ≡ n = (let read = c.in-Ok.is in cc) in
+    let yes = (bytes_eq-Decides c.as_str.result.now c.args.text.now).1 (written ∙ ap decimal same ∙ sym is) in
+    let no = c.if-eq.ensures in
+    cc))
