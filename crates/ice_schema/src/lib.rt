@@ -12,8 +12,8 @@ mod sizes;
 mod sources;
 
 pub use fault::PartErr;
-pub use mapping::to_avro;
 pub use kinds::NullBranch;
+pub use mapping::to_avro;
 pub use partitions::partition_type;
 pub use projecting::projects;
 pub use projection::{Nullness, Projection, Source, SourceList};
