@@ -1,6 +1,6 @@
 -- The table of decimals' sizes is the definition's.
 use Rattle.std.proofs.Common.{◌≡◌, ℕ, zero, suc, ◌+◌, ◌-◌, ◌*◌, ◌^◌, ◌<◌, ◌≤◌, List, [], ◌∷◌, length, Bool, true, false, cond, Option, Some, None, refl, sym, ap, ◌∙◌, subst, arith, rules, get_or}
-use Rattle.std.specs.Prelude.{find, unwrap_or, nat_lt, ◌==◌, if◌then◌else◌}
+use Rattle.std.specs.Prelude.{find, unwrap_or, nat_lt}
 use Rattle.std.proofs.Math.Nat.{pow-le-pow_right}
 use Rattle.std.proofs.lemmas.Bool.{le-ltb, ltb-false}
 use Rattle.ice_schema.specs.Mapping.{holds_digits, decimal_sizes, decimal_size, IsLeastSize, DecimalSizesAreLeast}
@@ -51,9 +51,13 @@ pub size_beyond : (digits : ℕ) → 39 ≤ digits → 16 ≡ decimal_size digit
 unfolding decimal_size
 size_beyond digits many = rw (none_found digits decimal_sizes many (search rules)) refl
 
--- one byte less than the size doesn't hold the digits
+-- one byte less than a size holds the digits
+abbrev one_less : ℕ → ℕ → Bool
+one_less digits zero = false
+one_less digits (suc size) = holds_digits digits size
+
 abbrev one_less_holds : ℕ → Bool
-one_less_holds digits = if decimal_size digits == 0 then false else holds_digits digits (decimal_size digits - 1)
+one_less_holds digits = one_less digits (decimal_size digits)
 
 -- the sizes are the least from a number of digits on, so often
 abbrev AreLeast : ℕ → ℕ → Type 0
@@ -74,15 +78,12 @@ unfolding decimal_size
 are_least = ((refl, refl), ((refl, refl), ((refl, refl), ((refl, refl), ((refl, refl), ((refl, refl), ((refl, refl), ((refl, refl), ((refl, refl), ((refl, refl), ((refl, refl), ((refl, refl), ((refl, refl), ((refl, refl), ((refl, refl), ((refl, refl), ((refl, refl), ((refl, refl), ((refl, refl), ((refl, refl), ((refl, refl), ((refl, refl), ((refl, refl), ((refl, refl), ((refl, refl), ((refl, refl), ((refl, refl), ((refl, refl), ((refl, refl), ((refl, refl), ((refl, refl), ((refl, refl), ((refl, refl), ((refl, refl), ((refl, refl), ((refl, refl), ((refl, refl), ((refl, refl), ((refl, refl), tt)))))))))))))))))))))))))))))))))))))))
 
 -- fewer bytes than too few are too few
-too_few : (digits size fewer : ℕ) → 0 < size → holds_digits digits (size - 1) ≡ false → fewer < size → holds_digits digits fewer ≡ false
-too_few digits size fewer some no less =
-    let enough : 2 ^ (8 * (size - 1) - 1) ≤ 10 ^ digits - 1 = ltb-false (10 ^ digits - 1) (2 ^ (8 * (size - 1) - 1)) no in
-    let below : 2 ^ (8 * fewer - 1) ≤ 2 ^ (8 * (size - 1) - 1) = pow-le-pow_right (omega arith) {i = 8 * fewer - 1} {j = 8 * (size - 1) - 1} (omega arith) in
+none_below : (digits size : ℕ) → one_less digits size ≡ false → (fewer : ℕ) → fewer < size → holds_digits digits fewer ≡ false
+none_below digits zero small fewer less = absurd (omega arith)
+none_below digits (suc size) small fewer less =
+    let enough : 2 ^ (8 * size - 1) ≤ 10 ^ digits - 1 = ltb-false (10 ^ digits - 1) (2 ^ (8 * size - 1)) small in
+    let below : 2 ^ (8 * fewer - 1) ≤ 2 ^ (8 * size - 1) = pow-le-pow_right (omega arith) {i = 8 * fewer - 1} {j = 8 * size - 1} (omega arith) in
     le-ltb (10 ^ digits - 1) (2 ^ (8 * fewer - 1)) (omega arith)
-
-none_below : (digits size : ℕ) → (if size == 0 then false else holds_digits digits (size - 1)) ≡ false → (fewer : ℕ) → fewer < size → holds_digits digits fewer ≡ false
-none_below digits zero no fewer less = absurd (omega arith)
-none_below digits (suc size) no fewer less = too_few digits (suc size) fewer (omega arith) no less
 
 pub sizes_are_least : DecimalSizesAreLeast
 sizes_are_least digits few =
