@@ -95,10 +95,14 @@ fn gives(
 fn schema_mapped_and_projected(rt: HostRuntime) -> Result<(), Fail> {
     let current = id_and_name(rt.alloc())?;
     let text = mapped(rt.alloc(), &current)?;
-    assert_eq!(&rt; text.as_str(), r#"{"fields":[{"field-id":1,"name":"id","type":"long"},{"default":null,"field-id":2,"name":"name","type":["null","string"]}],"name":"table","type":"record"}"#);
+    assert_eq!(&rt;
+        text.as_str(),
+        r#"{"fields":[{"field-id":1,"name":"id","type":"long"},{"default":null,"field-id":2,"name":"name","type":["null","string"]}],"name":"table","type":"record"}"#
+    );
     let itself = projected(rt.alloc(), text.as_str(), &current)?;
     assert_eq!(&rt; itself.as_str(), "{0=;1?=;}");
-    let without_id = r#"{"type":"record","name":"t","fields":[{"name":"name","type":["null","string"],"field-id":2}]}"#;
+    let without_id =
+        r#"{"type":"record","name":"t","fields":[{"name":"name","type":["null","string"],"field-id":2}]}"#;
     let none = projected(rt.alloc(), without_id, &current)?;
     assert_eq!(&rt; none.as_str(), "none");
     Ok(())

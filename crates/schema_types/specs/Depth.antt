@@ -36,3 +36,7 @@ type_step (ColType-F.Map key_id key value_id required value) = suc (max key valu
 -- how many types lie within one another
 abbrev pub type_depth : ColType → ℕ
 type_depth = fold-ColType ℕ ℕ type_step column_step
+
+-- how many types lie within one another in a column
+abbrev pub column_depth : Column → ℕ
+column_depth = fold-Column ℕ ℕ type_step column_step

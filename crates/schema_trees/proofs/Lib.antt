@@ -1,0 +1,13 @@
+mod Again
+mod Found
+mod Lists
+mod NestingLaws
+mod Public
+mod Rewritten
+mod TypeAgain
+mod TypeFound
+mod TypeIds
+mod TypeLevels
+mod TypeRewritten
+mod TypeWordLaws
+mod WordLaws

@@ -1,0 +1,10 @@
+pub mod Ids
+pub mod Words
+pub mod Reading
+pub mod Spelling
+pub mod Writing
+pub mod TypeWords
+pub mod TypeReading
+pub mod TypeSpelling
+pub mod TypeWriting
+pub mod Nesting
