@@ -1,9 +1,9 @@
 -- The table of decimals' sizes is the definition's.
-use Rattle.std.proofs.Common.{◌≡◌, ℕ, zero, suc, ◌+◌, ◌-◌, ◌*◌, ◌^◌, ◌<◌, ◌≤◌, List, [], ◌∷◌, length, Bool, true, false, cond, Option, Some, None, refl, sym, ap, ◌∙◌, subst, arith, rules, get_or}
-use Rattle.std.specs.Prelude.{find, unwrap_or, nat_lt}
+use Rattle.std.proofs.Common.{◌≡◌, ℕ, zero, suc, ◌+◌, ◌-◌, ◌*◌, ◌^◌, ◌<◌, ◌≤◌, List, [], ◌∷◌, Bool, true, false, None, refl, subst, arith, rules, get_or}
+use Rattle.std.specs.Prelude.{find}
 use Rattle.std.proofs.Math.Nat.{pow-le-pow_right}
 use Rattle.std.proofs.lemmas.Bool.{le-ltb, ltb-false}
-use Rattle.ice_schema.specs.Mapping.{holds_digits, decimal_sizes, decimal_size, IsLeastSize, DecimalSizesAreLeast}
+use Rattle.ice_schema.specs.Mapping.{holds_digits, decimal_sizes, decimal_size, DecimalSizesAreLeast}
 
 -- the sizes of decimals of 0, 1, 2 and so on digits
 abbrev pub sizes : List ℕ

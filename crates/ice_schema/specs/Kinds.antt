@@ -6,7 +6,6 @@ use Rattle.avro_schema.specs.declared.schema.Logical.{Logical}
 use Rattle.avro_schema.specs.declared.schema.Logical.TheVariants.{Plain, Date, TimeMicros, TimestampMicros, Decimal, Uuid}
 use Rattle.avro_schema.specs.declared.schema.Schema.{Schema, out-Schema}
 use Rattle.avro_schema.specs.declared.schema.Schema.TheOpen.{Schema-F}
-use Rattle.ice_schema.specs.Mapping.{decimal_size}
 use Rattle.ice_schema.specs.declared.kinds.NullBranch.{NullBranch}
 use Rattle.ice_schema.specs.declared.kinds.NullBranch.TheVariants as places
 

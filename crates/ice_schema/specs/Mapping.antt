@@ -1,7 +1,6 @@
 -- The Avro schema of a table's rows (Iceberg table specification, Appendix A, "Avro").
-use Rattle.std.specs.Prelude.{◌≡◌, ◌<◌, ◌≤◌, ℕ, ℤ, ◌-◌, ◌*◌, ◌^◌, List, [], ◌∷◌, codes, Bool, true, false, find, nat_lt, if◌then◌else◌, Option, Some, None, unwrap_or, map}
+use Rattle.std.specs.Prelude.{◌≡◌, ◌<◌, ◌≤◌, ℕ, ℤ, ◌-◌, ◌*◌, ◌^◌, List, [], ◌∷◌, codes, Bool, true, false, find, nat_lt, if◌then◌else◌, Some, None, unwrap_or, map}
 use Rattle.avro_schema.specs.declared.schema.Field.{Field}
-use Rattle.avro_schema.specs.declared.schema.Logical.{Logical}
 use Rattle.avro_schema.specs.declared.schema.Logical.TheVariants.{Plain, Date, TimeMicros, TimestampMicros, Decimal, Uuid}
 use Rattle.avro_schema.specs.declared.schema.Schema.{Schema, out-Schema}
 use Rattle.avro_schema.specs.declared.schema.Schema.TheOpen.{Schema-F}

@@ -1,4 +1,4 @@
-use Rattle.std.proofs.Common.{◌≡◌, ◌+◌, length, drop, ap, subst, arith, w32}
+use Rattle.std.proofs.Common.{◌≡◌, ◌+◌, drop, ap, subst, arith, w32}
 use Rattle.std.proofs.Math.ListN.{drop_of_length-le}
 use Rattle.std.proofs.lemmas.Int.{to_z-of_z}
 use Rattle.std.specs.List.{position_or_len}
