@@ -1,5 +1,5 @@
 -- The source of a field that was looked up at its place.
-use Rattle.std.proofs.Common.{◌≡◌, ℕ, ℤ, List, Bool, Option, Some, None, refl}
+use Rattle.std.proofs.Common.{◌≡◌, ℕ, ℤ, List, Bool, Option, refl}
 use Rattle.std.specs.Prelude.{slice_get, option_map}
 use Rattle.std.specs.List.{position_or_len}
 use Rattle.avro_schema.specs.declared.schema.Field.{Field}

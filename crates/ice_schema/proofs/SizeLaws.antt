@@ -1,9 +1,9 @@
 -- The table of decimals' sizes is the definition's.
-use Rattle.std.proofs.Common.{◌≡◌, ℕ, zero, suc, ◌+◌, ◌-◌, ◌*◌, ◌^◌, ◌<◌, ◌≤◌, List, [], ◌∷◌, length, Bool, true, false, cond, Option, Some, None, refl, sym, ap, ◌∙◌, subst, arith, rules, get_or}
-use Rattle.std.specs.Prelude.{find, unwrap_or, nat_lt}
+use Rattle.std.proofs.Common.{◌≡◌, ℕ, zero, suc, ◌+◌, ◌-◌, ◌*◌, ◌^◌, ◌<◌, ◌≤◌, List, [], ◌∷◌, Bool, true, false, None, refl, subst, arith, rules, get_or}
+use Rattle.std.specs.Prelude.{find}
 use Rattle.std.proofs.Math.Nat.{pow-le-pow_right}
-use Rattle.std.proofs.lemmas.Bool.{le-ltb}
-use Rattle.ice_schema.specs.Mapping.{holds_digits, decimal_sizes, decimal_size}
+use Rattle.std.proofs.lemmas.Bool.{le-ltb, ltb-false}
+use Rattle.ice_schema.specs.Mapping.{holds_digits, decimal_sizes, decimal_size, DecimalSizesAreLeast}
 
 -- the sizes of decimals of 0, 1, 2 and so on digits
 abbrev pub sizes : List ℕ
@@ -50,3 +50,44 @@ none_found digits (n ∷ ns) many few = rw (too_many digits n many few.0) (none_
 pub size_beyond : (digits : ℕ) → 39 ≤ digits → 16 ≡ decimal_size digits
 unfolding decimal_size
 size_beyond digits many = rw (none_found digits decimal_sizes many (search rules)) refl
+
+-- one byte less than a size holds the digits
+abbrev one_less : ℕ → ℕ → Bool
+one_less digits zero = false
+one_less digits (suc size) = holds_digits digits size
+
+abbrev one_less_holds : ℕ → Bool
+one_less_holds digits = one_less digits (decimal_size digits)
+
+-- the sizes are the least from a number of digits on, so often
+abbrev AreLeast : ℕ → ℕ → Type 0
+AreLeast start zero = Unit {0}
+AreLeast start (suc count) = ((holds_digits start (decimal_size start) ≡ true) × (one_less_holds start ≡ false)) × AreLeast (suc start) count
+
+least_at : (count start more : ℕ) → more < count → AreLeast start count → (holds_digits (start + more) (decimal_size (start + more)) ≡ true) × (one_less_holds (start + more) ≡ false)
+least_at zero start more few are = absurd (omega arith)
+least_at (suc count) start zero few are =
+    let same : start ≡ start + 0 = omega arith in
+    subst (λ n. (holds_digits n (decimal_size n) ≡ true) × (one_less_holds n ≡ false)) same are.0
+least_at (suc count) start (suc more) few are =
+    let same : suc start + more ≡ start + suc more = omega arith in
+    subst (λ n. (holds_digits n (decimal_size n) ≡ true) × (one_less_holds n ≡ false)) same (least_at count (suc start) more (omega arith) are.1)
+
+are_least : AreLeast 0 39
+unfolding decimal_size
+are_least = ((refl, refl), ((refl, refl), ((refl, refl), ((refl, refl), ((refl, refl), ((refl, refl), ((refl, refl), ((refl, refl), ((refl, refl), ((refl, refl), ((refl, refl), ((refl, refl), ((refl, refl), ((refl, refl), ((refl, refl), ((refl, refl), ((refl, refl), ((refl, refl), ((refl, refl), ((refl, refl), ((refl, refl), ((refl, refl), ((refl, refl), ((refl, refl), ((refl, refl), ((refl, refl), ((refl, refl), ((refl, refl), ((refl, refl), ((refl, refl), ((refl, refl), ((refl, refl), ((refl, refl), ((refl, refl), ((refl, refl), ((refl, refl), ((refl, refl), ((refl, refl), ((refl, refl), tt)))))))))))))))))))))))))))))))))))))))
+
+-- fewer bytes than too few are too few
+none_below : (digits size : ℕ) → one_less digits size ≡ false → (fewer : ℕ) → fewer < size → holds_digits digits fewer ≡ false
+none_below digits zero small fewer less = absurd (omega arith)
+none_below digits (suc size) small fewer less =
+    let enough : 2 ^ (8 * size - 1) ≤ 10 ^ digits - 1 = ltb-false (10 ^ digits - 1) (2 ^ (8 * size - 1)) small in
+    let below : 2 ^ (8 * fewer - 1) ≤ 2 ^ (8 * size - 1) = pow-le-pow_right (omega arith) {i = 8 * fewer - 1} {j = 8 * size - 1} (omega arith) in
+    le-ltb (10 ^ digits - 1) (2 ^ (8 * fewer - 1)) (omega arith)
+
+pub sizes_are_least : DecimalSizesAreLeast
+sizes_are_least digits few =
+    let both = least_at 39 0 digits (omega arith) are_least in
+    let same : 0 + digits ≡ digits = omega arith in
+    let facts = subst (λ n. (holds_digits n (decimal_size n) ≡ true) × (one_less_holds n ≡ false)) same both in
+    record { holds = facts.0; least = none_below digits (decimal_size digits) facts.1 }

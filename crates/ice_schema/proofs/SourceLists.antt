@@ -1,5 +1,5 @@
 -- Sources behind those that were found before.
-use Rattle.std.proofs.Common.{◌≡◌, List, [], ◌∷◌, ◌++◌, Option, Some, None, refl, ap, sym, append_assoc}
+use Rattle.std.proofs.Common.{◌≡◌, List, [], ◌∷◌, ◌++◌, Option, Some, None, refl, ap, append_assoc}
 use Rattle.std.proofs.lemmas.List.{append-nil}
 use Rattle.ice_schema.specs.declared.projection.Source.{Source}
 use Rattle.ice_schema.specs.Projections.{with_first}

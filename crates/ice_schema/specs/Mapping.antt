@@ -1,7 +1,6 @@
 -- The Avro schema of a table's rows (Iceberg table specification, Appendix A, "Avro").
-use Rattle.std.specs.Prelude.{ℕ, ℤ, ◌-◌, ◌*◌, ◌^◌, List, [], ◌∷◌, codes, Bool, true, false, find, nat_lt, if◌then◌else◌, Option, Some, None, unwrap_or, map}
+use Rattle.std.specs.Prelude.{◌≡◌, ◌<◌, ◌≤◌, ℕ, ℤ, ◌-◌, ◌*◌, ◌^◌, List, [], ◌∷◌, codes, Bool, true, false, find, nat_lt, if◌then◌else◌, Some, None, unwrap_or, map}
 use Rattle.avro_schema.specs.declared.schema.Field.{Field}
-use Rattle.avro_schema.specs.declared.schema.Logical.{Logical}
 use Rattle.avro_schema.specs.declared.schema.Logical.TheVariants.{Plain, Date, TimeMicros, TimestampMicros, Decimal, Uuid}
 use Rattle.avro_schema.specs.declared.schema.Schema.{Schema, out-Schema}
 use Rattle.avro_schema.specs.declared.schema.Schema.TheOpen.{Schema-F}
@@ -23,6 +22,15 @@ decimal_sizes = 0 ∷ (1 ∷ (2 ∷ (3 ∷ (4 ∷ (5 ∷ (6 ∷ (7 ∷ (8 ∷ (9
 -- how many bytes a decimal of so many digits, at most 38, has: the least that hold them
 unfoldable pub decimal_size : ℕ → ℕ
 decimal_size digits = unwrap_or (find (holds_digits digits) decimal_sizes) 16
+
+-- so many bytes are the least that hold each number of so many digits
+pub record IsLeastSize (digits bytes : ℕ) : Type 0 where
+  pub holds : holds_digits digits bytes ≡ true
+  pub least : (fewer : ℕ) → fewer < bytes → holds_digits digits fewer ≡ false
+
+-- the size of each decimal of at most 38 digits is the least
+abbrev pub DecimalSizesAreLeast : Type 0
+DecimalSizesAreLeast = (digits : ℕ) → digits ≤ 38 → IsLeastSize digits (decimal_size digits)
 
 -- what may be null is a union that begins with null
 abbrev pub optional : Bool → Schema → Schema

@@ -1,5 +1,5 @@
 -- The types of partition values (Iceberg table specification, "Partition Transforms").
-use Rattle.std.specs.Prelude.{◌≡◌, ℕ, ℤ, List, ◌⊎◌, Contains, Option, Some, None, Result, Ok, Err}
+use Rattle.std.specs.Prelude.{◌≡◌, List, ◌⊎◌, Contains, Option, Some, None, Result, Ok, Err}
 use Rattle.std.specs.List.{AllZip}
 use Rattle.schema_types.specs.declared.types.ColType.{ColType}
 use Rattle.schema_types.specs.declared.types.ColType.TheVariants as types

@@ -30,6 +30,18 @@ kept is_same = if is_same then Some Kept else None
 abbrev pub long_projection : Schema → Option Projection
 long_projection s = if is_plain (long_of s) then Some Kept else (if is_plain (int_of s) then Some Widened else None)
 
+-- a decimal of the same precision, scale and size
+abbrev pub decimal_projection : ℕ → ℕ → Schema → Option Projection
+decimal_projection precision scale s = kept (is_decimal precision scale (fixed_of s) && size_of s == decimal_size precision)
+
+-- a UUID, which has 16 bytes
+abbrev pub uuid_projection : Schema → Option Projection
+uuid_projection s = kept (is_uuid (fixed_of s) && size_of s == 16)
+
+-- a fixed of the same size
+abbrev pub fixed_projection : ℕ → Schema → Option Projection
+fixed_projection size s = kept (is_plain (fixed_of s) && size_of s == size)
+
 -- What is there by its id, or lacks.
 
 -- how null is taken over, where it may be: what is required may not be null in the file
@@ -131,14 +143,14 @@ type_step ColType-F.Int s = kept (is_plain (int_of s))
 type_step ColType-F.Long s = long_projection s
 type_step ColType-F.Float s = kept (is_float s)
 type_step ColType-F.Double s = kept (is_double s)
-type_step (ColType-F.Decimal precision scale) s = kept (is_decimal precision scale (fixed_of s) && size_of s == decimal_size precision)
+type_step (ColType-F.Decimal precision scale) s = decimal_projection precision scale s
 type_step ColType-F.Date s = kept (is_date (int_of s))
 type_step ColType-F.Time s = kept (is_time (long_of s))
 type_step ColType-F.Timestamp s = kept (is_timestamp (long_of s))
 type_step ColType-F.Timestamptz s = kept (is_timestamptz (long_of s))
 type_step ColType-F.Str s = kept (is_plain (string_of s))
-type_step ColType-F.Uuid s = kept (is_uuid (fixed_of s) && size_of s == 16)
-type_step (ColType-F.Fixed length) s = kept (is_plain (fixed_of s) && size_of s == length)
+type_step ColType-F.Uuid s = uuid_projection s
+type_step (ColType-F.Fixed length) s = fixed_projection length s
 type_step ColType-F.Binary s = kept (is_plain (bytes_of s))
 type_step (ColType-F.Struct columns) s = record_projection columns (fields_of s)
 type_step (ColType-F.List element_id required element) s = array_projection element_id required element (element_id_of s) (item_of s)

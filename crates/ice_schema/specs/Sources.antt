@@ -1,5 +1,5 @@
 -- The columns that partition values are made from (Iceberg table specification, "Partitioning").
-use Rattle.std.specs.Prelude.{ℕ, ℤ, List, [], ◌∷◌, Bool, map, filter, if◌then◌else◌, int_lt, Option, Some, None, is_some, option_and_then}
+use Rattle.std.specs.Prelude.{ℤ, List, [], ◌∷◌, Bool, map, filter, if◌then◌else◌, int_lt, Option, Some, None, is_some, option_and_then}
 use Rattle.std.specs.Ordering.{int_eq}
 use Rattle.schema_types.specs.declared.types.ColType.{ColType, fold-ColType}
 use Rattle.schema_types.specs.declared.types.ColType.TheVariants as types

@@ -114,13 +114,7 @@ pub(crate) fn item_of(schema: &Schema) -> Option<&Schema>
     ensures { option_copied result ≡ kinds.item_of schema.now }
 {
     match schema {
-        Schema::List { item, is_map, .. } => {
-            if *is_map {
-                None
-            } else {
-                Some(item.get())
-            }
-        }
+        Schema::List { item, is_map, .. } => { if *is_map { None } else { Some(item.get()) } }
         _ => None,
     }
 }
@@ -140,13 +134,7 @@ pub(crate) fn entries_of(schema: &Schema) -> Option<&[Field]>
     ensures { option_copied result ≡ kinds.entries_of schema.now }
 {
     match schema {
-        Schema::List { item, is_map, .. } => {
-            if *is_map {
-                fields_of(item.get())
-            } else {
-                None
-            }
-        }
+        Schema::List { item, is_map, .. } => { if *is_map { fields_of(item.get()) } else { None } }
         _ => None,
     }
 }
@@ -239,10 +227,12 @@ pub(crate) fn is_decimal(precision: u32, scale: u32, logical: Option<Logical>) -
     ensures { result ≡ kinds.is_decimal precision scale logical }
 {
     match logical {
-        Some(Logical::Decimal {
-            precision: p,
-            scale: s,
-        }) => p == precision && s == scale,
+        Some(
+            Logical::Decimal {
+                precision: p,
+                scale: s,
+            },
+        ) => p == precision && s == scale,
         _ => false,
     }
 }

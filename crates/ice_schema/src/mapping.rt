@@ -1,8 +1,9 @@
 // The Avro schema of a table's rows (Iceberg table specification, Appendix A, "Avro").
 ghost use Rattle.std.specs.Prelude.{◌≡◌, map, Option, IfOk, codes, string_bytes};
-ghost use Rattle.avro_schema.specs.declared.schema.Schema.TheVariants.{Fix, List as Array};
+ghost use Rattle.avro_schema.specs.declared.schema.Logical.TheVariants.{TimestampMicros, Decimal};
+ghost use Rattle.avro_schema.specs.declared.schema.Schema.TheVariants.{Long, Fix, List as Array};
 ghost use Rattle.ice_schema.specs.Names.{fixed_name};
-ghost use Rattle.ice_schema.specs.Mapping.{optional, field_of, entries_of, map_of, avro_type, avro_field, rows_schema};
+ghost use Rattle.ice_schema.specs.Mapping.{decimal_size, optional, field_of, entries_of, map_of, avro_type, avro_field, rows_schema};
 
 use crate::names::{entry_name, field_name, fixed_name, record_name};
 use crate::sizes::decimal_size;
@@ -50,7 +51,26 @@ fn fixed(alloc: Global, id: i32, size: u32, logical: Logical) -> Result<Schema, 
     })
 }
 
-fn array(alloc: Global, item: Schema, element_id: Option<i32>, is_map: bool) -> Result<Schema, AllocError>
+fn decimal(alloc: Global, id: i32, precision: u32, scale: u32) -> Result<Schema, AllocError>
+    ensures { IfOk result (λ s. s ≡ Fix (fixed_name id) (decimal_size precision) (Decimal precision scale)) }
+{
+    let size = decimal_size(precision);
+    fixed(alloc, id, size, Logical::Decimal { precision, scale })
+}
+
+// Microseconds since 1970.
+fn moment(adjust_to_utc: bool) -> Schema
+    ensures { result ≡ Long (TimestampMicros adjust_to_utc) }
+{
+    Schema::Long(Logical::TimestampMicros { adjust_to_utc })
+}
+
+fn array(
+    alloc: Global,
+    item: Schema,
+    element_id: Option<i32>,
+    is_map: bool,
+) -> Result<Schema, AllocError>
     ensures { IfOk result (λ s. s ≡ Array item element_id is_map) }
 {
     Ok(Schema::List {
@@ -60,7 +80,13 @@ fn array(alloc: Global, item: Schema, element_id: Option<i32>, is_map: bool) -> 
     })
 }
 
-fn entries_of(alloc: Global, key_id: i32, key: Schema, value_id: i32, value: Schema) -> Result<Schema, AllocError>
+fn entries_of(
+    alloc: Global,
+    key_id: i32,
+    key: Schema,
+    value_id: i32,
+    value: Schema,
+) -> Result<Schema, AllocError>
     ensures { IfOk result (λ s. s ≡ entries_of key_id key value_id value) }
 {
     let mut fields = Items::new(alloc);
@@ -82,7 +108,13 @@ fn entries_of(alloc: Global, key_id: i32, key: Schema, value_id: i32, value: Sch
 }
 
 // A map: an Avro map where its keys are strings.
-fn map_of(alloc: Global, key_id: i32, key: Schema, value_id: i32, value: Schema) -> Result<Schema, AllocError>
+fn map_of(
+    alloc: Global,
+    key_id: i32,
+    key: Schema,
+    value_id: i32,
+    value: Schema,
+) -> Result<Schema, AllocError>
     ensures { IfOk result (λ s. s ≡ map_of key_id key value_id value) }
 {
     if let Schema::Str(_) = &key {
@@ -105,21 +137,11 @@ fn avro_type(alloc: Global, ty: &ColType, id: i32) -> Result<Schema, AllocError>
         ColType::Long => Ok(Schema::Long(Logical::Plain)),
         ColType::Float => Ok(Schema::Float4),
         ColType::Double => Ok(Schema::Float8),
-        ColType::Decimal { precision, scale } => {
-            let logical = Logical::Decimal {
-                precision: *precision,
-                scale: *scale,
-            };
-            fixed(alloc, id, decimal_size(*precision), logical)
-        }
+        ColType::Decimal { precision, scale } => decimal(alloc, id, *precision, *scale),
         ColType::Date => Ok(Schema::Int(Logical::Date)),
         ColType::Time => Ok(Schema::Long(Logical::TimeMicros)),
-        ColType::Timestamp => Ok(Schema::Long(Logical::TimestampMicros {
-            adjust_to_utc: false,
-        })),
-        ColType::Timestamptz => Ok(Schema::Long(Logical::TimestampMicros {
-            adjust_to_utc: true,
-        })),
+        ColType::Timestamp => Ok(moment(false)),
+        ColType::Timestamptz => Ok(moment(true)),
         ColType::Str => Ok(Schema::Str(Logical::Plain)),
         ColType::Uuid => fixed(alloc, id, 16, Logical::Uuid),
         ColType::Fixed(length) => fixed(alloc, id, *length, Logical::Plain),

@@ -5,7 +5,9 @@ ghost use Rattle.ice_schema.specs.Partitions.{result_type, IsPartField, ArePartF
 
 use crate::fault::PartErr;
 use crate::sources::source_type;
-use schema_types::{ColType, PartField, PartFieldList, PartType, Schema, SchemaList, Spec, SpecField, Transform};
+use schema_types::{
+    ColType, PartField, PartFieldList, PartType, Schema, SchemaList, Spec, SpecField, Transform,
+};
 use sqlite_items::Items;
 use std::alloc::{AllocError, Global};
 
@@ -22,7 +24,11 @@ pub fn partition_type(alloc: Global, spec: &Spec, schemas: &SchemaList) -> Resul
     })
 }
 
-fn part_fields(alloc: Global, fields: &[SpecField], schemas: &[Schema]) -> Result<PartFieldList, PartErr>
+fn part_fields(
+    alloc: Global,
+    fields: &[SpecField],
+    schemas: &[Schema],
+) -> Result<PartFieldList, PartErr>
     ensures typed { IfOk result (ArePartFields schemas.now fields.now) }
     ensures untyped { OnTransform result (SomeUntyped schemas.now fields.now) }
 {
@@ -51,12 +57,18 @@ fn part_field(alloc: Global, field: &SpecField, schemas: &[Schema]) -> Result<Pa
 }
 
 // The type that a transform gives of a source's type.
-fn result_type(alloc: Global, transform: Transform, source: &ColType) -> Result<Option<ColType>, AllocError>
+fn result_type(
+    alloc: Global,
+    transform: Transform,
+    source: &ColType,
+) -> Result<Option<ColType>, AllocError>
     ensures { IfOk result (λ t. t ≡ result_type transform source.now) }
 {
     Ok(match transform {
         Transform::Identity | Transform::Truncate(_) | Transform::Void => Some(source.copy(alloc)?),
-        Transform::Bucket(_) | Transform::Year | Transform::Month | Transform::Hour => Some(ColType::Int),
+        Transform::Bucket(_) | Transform::Year | Transform::Month | Transform::Hour => Some(
+            ColType::Int,
+        ),
         Transform::Day => Some(ColType::Date),
         Transform::Unknown => None,
     })

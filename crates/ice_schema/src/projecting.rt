@@ -2,8 +2,8 @@
 ghost use Rattle.std.specs.Prelude.{◌≡◌, map, if◌then◌else◌, Option, Some, None, IfOk, option_map};
 ghost use Rattle.ice_schema.specs.declared.projection.Source.{Source};
 ghost use Rattle.ice_schema.specs.declared.projection.Projection.TheVariants.{Array};
-ghost use Rattle.ice_schema.specs.Kinds.{null_branch, type_within, fields_of, value_of};
-ghost use Rattle.ice_schema.specs.Projections.{kept, long_projection, nullness, present, absent, source_of, field_source, each_source, record_projection, map_projection, entries_from, type_projection, column_source, projection_of};
+ghost use Rattle.ice_schema.specs.Kinds.{null_branch, type_within, fields_of, element_id_of, item_of, value_of};
+ghost use Rattle.ice_schema.specs.Projections.{kept, long_projection, decimal_projection, uuid_projection, fixed_projection, nullness, present, absent, source_of, field_source, each_source, record_projection, array_projection, map_projection, entries_from, type_projection, column_source, projection_of};
 
 use crate::kinds;
 use crate::kinds::{NullBranch, is_id, null_branch, place_of, type_within};
@@ -19,7 +19,11 @@ use std::alloc::{AllocError, Global};
 /// Columns, elements, keys and values are found by their ids. None comes exactly where one of them is
 /// neither in the file with the same type, nor an int that is wanted as a long, nor lacking and not
 /// required, or where it is required and may be null in the file.
-pub fn projects(alloc: Global, file: &Schema, current: &schema_types::Schema) -> Result<Option<Projection>, AllocError>
+pub fn projects(
+    alloc: Global,
+    file: &Schema,
+    current: &schema_types::Schema,
+) -> Result<Option<Projection>, AllocError>
     ensures projected { IfOk result (λ p. p ≡ projection_of file.now current.now) }
 {
     let fields = kinds::fields_of(file).unwrap_or(&[]);
@@ -32,7 +36,11 @@ pub fn projects(alloc: Global, file: &Schema, current: &schema_types::Schema) ->
 fn kept(is_same: bool) -> Option<Projection>
     ensures { result ≡ kept is_same }
 {
-    if is_same { Some(Projection::Kept) } else { None }
+    if is_same {
+        Some(Projection::Kept)
+    } else {
+        None
+    }
 }
 
 fn long_projection(file: &Schema) -> Option<Projection>
@@ -47,6 +55,25 @@ fn long_projection(file: &Schema) -> Option<Projection>
     }
 }
 
+fn decimal_projection(file: &Schema, precision: u32, scale: u32) -> Option<Projection>
+    ensures { result ≡ decimal_projection precision scale file.now }
+{
+    let is_same = kinds::is_decimal(precision, scale, kinds::fixed_of(file));
+    kept(is_same && kinds::size_of(file) == decimal_size(precision))
+}
+
+fn uuid_projection(file: &Schema) -> Option<Projection>
+    ensures { result ≡ uuid_projection file.now }
+{
+    kept(kinds::is_uuid(kinds::fixed_of(file)) && kinds::size_of(file) == 16)
+}
+
+fn fixed_projection(file: &Schema, size: u32) -> Option<Projection>
+    ensures { result ≡ fixed_projection size file.now }
+{
+    kept(kinds::is_plain(kinds::fixed_of(file)) && kinds::size_of(file) == size)
+}
+
 // How null is taken over: what is required may not be null in the file.
 fn nullness(required: bool, null: NullBranch) -> Option<Nullness>
     ensures { result ≡ nullness required null }
@@ -57,8 +84,16 @@ fn nullness(required: bool, null: NullBranch) -> Option<Nullness>
         } else {
             Nullness::Wrapped
         }),
-        NullBranch::First => if required { None } else { Some(Nullness::NullFirst) },
-        NullBranch::Second => if required { None } else { Some(Nullness::NullSecond) },
+        NullBranch::First => if required {
+            None
+        } else {
+            Some(Nullness::NullFirst)
+        },
+        NullBranch::Second => if required {
+            None
+        } else {
+            Some(Nullness::NullSecond)
+        },
     }
 }
 
@@ -100,7 +135,11 @@ fn entries_of(
 }
 
 #[cycle(projecting)]
-fn project_type(alloc: Global, ty: &ColType, file: &Schema) -> Result<Option<Projection>, AllocError>
+fn project_type(
+    alloc: Global,
+    ty: &ColType,
+    file: &Schema,
+) -> Result<Option<Projection>, AllocError>
     ensures { IfOk result (λ p. p ≡ type_projection ty.now file.now) }
 {
     match ty {
@@ -109,37 +148,30 @@ fn project_type(alloc: Global, ty: &ColType, file: &Schema) -> Result<Option<Pro
         ColType::Long => Ok(long_projection(file)),
         ColType::Float => Ok(kept(kinds::is_float(file))),
         ColType::Double => Ok(kept(kinds::is_double(file))),
-        ColType::Decimal { precision, scale } => {
-            let is_same = kinds::is_decimal(*precision, *scale, kinds::fixed_of(file));
-            Ok(kept(is_same && kinds::size_of(file) == decimal_size(*precision)))
-        }
+        ColType::Decimal { precision, scale } => Ok(decimal_projection(file, *precision, *scale)),
         ColType::Date => Ok(kept(kinds::is_date(kinds::int_of(file)))),
         ColType::Time => Ok(kept(kinds::is_time(kinds::long_of(file)))),
         ColType::Timestamp => Ok(kept(kinds::is_timestamp(kinds::long_of(file)))),
         ColType::Timestamptz => Ok(kept(kinds::is_timestamptz(kinds::long_of(file)))),
         ColType::Str => Ok(kept(kinds::is_plain(kinds::string_of(file)))),
-        ColType::Uuid => {
-            let is_same = kinds::is_uuid(kinds::fixed_of(file));
-            Ok(kept(is_same && kinds::size_of(file) == 16))
-        }
-        ColType::Fixed(length) => {
-            let is_same = kinds::is_plain(kinds::fixed_of(file));
-            Ok(kept(is_same && kinds::size_of(file) == *length))
-        }
+        ColType::Uuid => Ok(uuid_projection(file)),
+        ColType::Fixed(length) => Ok(fixed_projection(file, *length)),
         ColType::Binary => Ok(kept(kinds::is_plain(kinds::bytes_of(file)))),
         ColType::Struct(columns) => project_record(alloc, columns.as_slice(), file),
-        ColType::List { element_id, required, element } => {
-            let Some(item) = kinds::item_of(file) else {
-                return Ok(None);
-            };
-            let is_there = is_id(*element_id, kinds::element_id_of(file));
-            let item = project_lone(alloc, element.get(), *required, is_there, item)?;
-            array_of(alloc, item)
-        }
-        ColType::Map { key_id, key, value_id, required, value } => {
+        ColType::List {
+            element_id,
+            required,
+            element,
+        } => project_list(alloc, element.get(), *element_id, *required, file),
+        ColType::Map {
+            key_id,
+            key,
+            value_id,
+            required,
+            value,
+        } => {
             let strings = Schema::Str(Logical::Plain);
-            let has_strings = project_type(alloc, key.get(), &strings)?.is_some();
-            if has_strings {
+            if project_type(alloc, key.get(), &strings)?.is_some() {
                 return project_map(alloc, value.get(), *key_id, *value_id, *required, file);
             }
             let Some(fields) = kinds::entries_of(file) else {
@@ -150,6 +182,24 @@ fn project_type(alloc: Global, ty: &ColType, file: &Schema) -> Result<Option<Pro
             entries_of(alloc, key, value)
         }
     }
+}
+
+#[cycle(projecting)]
+fn project_list(
+    alloc: Global,
+    element: &ColType,
+    element_id: i32,
+    required: bool,
+    file: &Schema,
+) -> Result<Option<Projection>, AllocError>
+    ensures { IfOk result (λ p. p ≡ array_projection element_id required (type_projection element.now) (element_id_of file.now) (item_of file.now)) }
+{
+    let Some(item) = kinds::item_of(file) else {
+        return Ok(None);
+    };
+    let is_there = is_id(element_id, kinds::element_id_of(file));
+    let item = project_lone(alloc, element, required, is_there, item)?;
+    array_of(alloc, item)
 }
 
 // An Avro map, whose keys are strings.

@@ -1,6 +1,6 @@
 // Sizes of decimals.
 ghost use Rattle.std.specs.Prelude.{◌≡◌};
-ghost use Rattle.ice_schema.specs.Mapping.{decimal_size};
+ghost use Rattle.ice_schema.specs.Mapping.{decimal_size, DecimalSizesAreLeast};
 
 /// How many bytes a decimal of 0, 1, 2 and so on digits has.
 const SIZES: [u32; 39] = [
@@ -18,3 +18,8 @@ pub(crate) fn decimal_size(digits: u32) -> u32
         16
     }
 }
+
+/// The size of each decimal of at most 38 digits is the least that holds them.
+pub fn decimal_sizes_are_least()
+    ensures { DecimalSizesAreLeast }
+{}

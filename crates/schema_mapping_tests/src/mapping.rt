@@ -1,4 +1,4 @@
-use crate::tables::{id_and_name, list, map, one_column, struct_of_int};
+use crate::tables::{list, map, one_column, struct_of_int};
 use avro_schema::write_schema;
 use ice_schema::to_avro;
 use schema_types::{ColType, Schema};
@@ -7,7 +7,7 @@ use std::process::Abort;
 use std::test::Fail;
 
 // The text of the Avro schema of a schema.
-fn mapped(alloc: Global, schema: &Schema) -> Result<String, Fail> {
+pub(crate) fn mapped(alloc: Global, schema: &Schema) -> Result<String, Fail> {
     let avro = to_avro(alloc, schema)?;
     let tree = write_schema(alloc, &avro)?;
     Ok(tree.to_string(alloc)?)
@@ -37,14 +37,6 @@ fn has_size(rt: &impl Abort, alloc: Global, precision: u32, size: u32) -> Result
 }
 
 #[test]
-fn schema_mapped(rt: HostRuntime) -> Result<(), Fail> {
-    let schema = id_and_name(rt.alloc())?;
-    let found = mapped(rt.alloc(), &schema)?;
-    assert_eq!(&rt; found.as_str(), r#"{"fields":[{"field-id":1,"name":"id","type":"long"},{"default":null,"field-id":2,"name":"name","type":["null","string"]}],"name":"table","type":"record"}"#);
-    Ok(())
-}
-
-#[test]
 fn primitive_types_mapped(rt: HostRuntime) -> Result<(), Fail> {
     let alloc = rt.alloc();
     maps(&rt, alloc, ColType::Boolean, r#""boolean""#)?;
@@ -52,18 +44,59 @@ fn primitive_types_mapped(rt: HostRuntime) -> Result<(), Fail> {
     maps(&rt, alloc, ColType::Float, r#""float""#)?;
     maps(&rt, alloc, ColType::Double, r#""double""#)?;
     maps(&rt, alloc, ColType::Binary, r#""bytes""#)?;
-    maps(&rt, alloc, ColType::Date, r#"{"logicalType":"date","type":"int"}"#)?;
-    maps(&rt, alloc, ColType::Time, r#"{"logicalType":"time-micros","type":"long"}"#)?;
-    maps(&rt, alloc, ColType::Timestamp, r#"{"adjust-to-utc":false,"logicalType":"timestamp-micros","type":"long"}"#)?;
-    maps(&rt, alloc, ColType::Timestamptz, r#"{"adjust-to-utc":true,"logicalType":"timestamp-micros","type":"long"}"#)?;
-    maps(&rt, alloc, ColType::Uuid, r#"{"logicalType":"uuid","name":"f7","size":16,"type":"fixed"}"#)?;
-    maps(&rt, alloc, ColType::Fixed(5), r#"{"name":"f7","size":5,"type":"fixed"}"#)
+    maps(
+        &rt,
+        alloc,
+        ColType::Date,
+        r#"{"logicalType":"date","type":"int"}"#,
+    )?;
+    maps(
+        &rt,
+        alloc,
+        ColType::Time,
+        r#"{"logicalType":"time-micros","type":"long"}"#,
+    )?;
+    maps(
+        &rt,
+        alloc,
+        ColType::Timestamp,
+        r#"{"adjust-to-utc":false,"logicalType":"timestamp-micros","type":"long"}"#,
+    )?;
+    maps(
+        &rt,
+        alloc,
+        ColType::Timestamptz,
+        r#"{"adjust-to-utc":true,"logicalType":"timestamp-micros","type":"long"}"#,
+    )?;
+    maps(
+        &rt,
+        alloc,
+        ColType::Uuid,
+        r#"{"logicalType":"uuid","name":"f7","size":16,"type":"fixed"}"#,
+    )?;
+    maps(
+        &rt,
+        alloc,
+        ColType::Fixed(5),
+        r#"{"name":"f7","size":5,"type":"fixed"}"#,
+    )
 }
 
 // 2^(8n - 1) is above 10^P - 1 for the first time.
 #[test]
 fn decimal_sizes(rt: HostRuntime) -> Result<(), Fail> {
-    for (precision, size) in [(1, 1), (2, 1), (3, 2), (4, 2), (5, 3), (9, 4), (10, 5), (18, 8), (19, 9), (38, 16)] {
+    for (precision, size) in [
+        (1, 1),
+        (2, 1),
+        (3, 2),
+        (4, 2),
+        (5, 3),
+        (9, 4),
+        (10, 5),
+        (18, 8),
+        (19, 9),
+        (38, 16),
+    ] {
         has_size(&rt, rt.alloc(), precision, size)?;
     }
     Ok(())
@@ -75,10 +108,33 @@ fn nested_types_mapped(rt: HostRuntime) -> Result<(), Fail> {
     let inner = r#""fields":[{"default":null,"field-id":8,"name":"_8","type":["null","int"]}]"#;
     let record = format!(in alloc; r#"{{{inner},"name":"r7","type":"record"}}"#)?;
     maps(&rt, alloc, struct_of_int(alloc)?, record.as_str())?;
-    let array = format!(in alloc; r#"{{"element-id":9,"items":{{{inner},"name":"r9","type":"record"}},"type":"array"}}"#)?;
-    maps(&rt, alloc, list(alloc, true, struct_of_int(alloc)?)?, array.as_str())?;
-    maps(&rt, alloc, list(alloc, false, ColType::Str)?, r#"{"element-id":9,"items":["null","string"],"type":"array"}"#)?;
-    maps(&rt, alloc, map(alloc, ColType::Str, true, ColType::Long)?, r#"{"key-id":8,"type":"map","value-id":9,"values":"long"}"#)?;
-    let entries = r#"{"items":{"fields":[{"field-id":8,"name":"key","type":"int"},{"default":null,"field-id":9,"name":"value","type":["null","double"]}],"name":"k8_v9","type":"record"},"logicalType":"map","type":"array"}"#;
-    maps(&rt, alloc, map(alloc, ColType::Int, false, ColType::Double)?, entries)
+    let array = format!(in alloc;
+        r#"{{"element-id":9,"items":{{{inner},"name":"r9","type":"record"}},"type":"array"}}"#
+    )?;
+    maps(
+        &rt,
+        alloc,
+        list(alloc, true, struct_of_int(alloc)?)?,
+        array.as_str(),
+    )?;
+    maps(
+        &rt,
+        alloc,
+        list(alloc, false, ColType::Str)?,
+        r#"{"element-id":9,"items":["null","string"],"type":"array"}"#,
+    )?;
+    maps(
+        &rt,
+        alloc,
+        map(alloc, ColType::Str, true, ColType::Long)?,
+        r#"{"key-id":8,"type":"map","value-id":9,"values":"long"}"#,
+    )?;
+    let entries =
+        r#"{"items":{"fields":[{"field-id":8,"name":"key","type":"int"},{"default":null,"field-id":9,"name":"value","type":["null","double"]}],"name":"k8_v9","type":"record"},"logicalType":"map","type":"array"}"#;
+    maps(
+        &rt,
+        alloc,
+        map(alloc, ColType::Int, false, ColType::Double)?,
+        entries,
+    )
 }

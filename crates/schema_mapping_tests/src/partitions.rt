@@ -11,7 +11,13 @@ use std::test::Fail;
 fn schemas(alloc: Global) -> Result<SchemaList, AllocError> {
     let mut columns = Items::new(alloc);
     columns.push(column(alloc, 1, "id", true, ColType::Str)?)?;
-    columns.push(column(alloc, 3, "list", true, list(alloc, true, struct_of_int(alloc)?)?)?)?;
+    columns.push(column(
+        alloc,
+        3,
+        "list",
+        true,
+        list(alloc, true, struct_of_int(alloc)?)?,
+    )?)?;
     let mut schemas = Items::new(alloc);
     schemas.push(Schema { id: 4, columns })?;
     schemas.push(id_and_name(alloc)?)?;
@@ -31,7 +37,12 @@ fn spec_of(alloc: Global, source_id: i32, transform: Transform) -> Result<Spec, 
 
 fn shown(alloc: Global, typed: &PartType) -> Result<String, Fail> {
     match typed.fields.as_slice() {
-        [field] => Ok(format!(in alloc; "{} {} {:?}", field.field_id, field.name.as_str(), field.ty)?),
+        [field] => Ok(format!(in alloc;
+            "{} {} {:?}",
+            field.field_id,
+            field.name.as_str(),
+            field.ty
+        )?),
         fields => Ok(format!(in alloc; "{} fields", fields.len())?),
     }
 }

@@ -1,6 +1,7 @@
+use crate::mapping::mapped;
 use crate::tables::{id_and_name, list, map, one_column, struct_of_int};
 use avro_schema::read_schema;
-use ice_schema::{Nullness, Projection, Source, projects, to_avro};
+use ice_schema::{Nullness, Projection, Source, projects};
 use schema_types::{ColType, Schema};
 use serde_json::Value;
 use std::alloc::Global;
@@ -91,18 +92,34 @@ fn gives(
 }
 
 #[test]
-fn schema_projected(rt: HostRuntime) -> Result<(), Fail> {
+fn schema_mapped_and_projected(rt: HostRuntime) -> Result<(), Fail> {
     let current = id_and_name(rt.alloc())?;
-    let file = to_avro(rt.alloc(), &current)?;
-    let Some(projection) = projects(rt.alloc(), &file, &current)? else {
-        panic!(&rt; "none");
-    };
-    let found = shown(rt.alloc(), &projection)?;
-    assert_eq!(&rt; found.as_str(), "{0=;1?=;}");
+    let text = mapped(rt.alloc(), &current)?;
+    assert_eq!(&rt;
+        text.as_str(),
+        r#"{"fields":[{"field-id":1,"name":"id","type":"long"},{"default":null,"field-id":2,"name":"name","type":["null","string"]}],"name":"table","type":"record"}"#
+    );
+    let itself = projected(rt.alloc(), text.as_str(), &current)?;
+    assert_eq!(&rt; itself.as_str(), "{0=;1?=;}");
+    let without_id =
+        r#"{"type":"record","name":"t","fields":[{"name":"name","type":["null","string"],"field-id":2}]}"#;
+    let none = projected(rt.alloc(), without_id, &current)?;
+    assert_eq!(&rt; none.as_str(), "none");
+    Ok(())
+}
+
+#[test]
+fn columns_found_by_id(rt: HostRuntime) -> Result<(), Fail> {
+    let current = id_and_name(rt.alloc())?;
     for (file, wanted) in [
-        (r#"{"type":"record","name":"t","fields":[{"name":"name","type":["null","string"],"field-id":2}]}"#, "none"),
-        (r#"{"type":"record","name":"t","fields":[{"name":"id","type":"string","field-id":2},{"name":"name","type":"long","field-id":1}]}"#, "{1=;0+=;}"),
-        (r#"{"type":"record","name":"t","fields":[{"name":"id","type":"long"},{"name":"x","type":"long","field-id":1}]}"#, "{1=;null;}"),
+        (
+            r#"{"type":"record","name":"t","fields":[{"name":"id","type":"string","field-id":2},{"name":"name","type":"long","field-id":1}]}"#,
+            "{1=;0+=;}",
+        ),
+        (
+            r#"{"type":"record","name":"t","fields":[{"name":"id","type":"long"},{"name":"x","type":"long","field-id":1}]}"#,
+            "{1=;null;}",
+        ),
         (r#""long""#, "none"),
     ] {
         let found = projected(rt.alloc(), file, &current)?;
@@ -119,11 +136,32 @@ fn primitive_types_projected(rt: HostRuntime) -> Result<(), Fail> {
     gives(&rt, alloc, r#""long""#, true, ColType::Int, "none")?;
     gives(&rt, alloc, r#""int""#, true, ColType::Date, "none")?;
     gives(&rt, alloc, r#""float""#, true, ColType::Double, "none")?;
-    gives(&rt, alloc, r#"["null","int"]"#, false, ColType::Long, "{0?L;}")?;
-    gives(&rt, alloc, r#"["int","null"]"#, false, ColType::Long, "{0~L;}")?;
+    gives(
+        &rt,
+        alloc,
+        r#"["null","int"]"#,
+        false,
+        ColType::Long,
+        "{0?L;}",
+    )?;
+    gives(
+        &rt,
+        alloc,
+        r#"["int","null"]"#,
+        false,
+        ColType::Long,
+        "{0~L;}",
+    )?;
     gives(&rt, alloc, r#""int""#, false, ColType::Int, "{0+=;}")?;
     gives(&rt, alloc, r#"["null","int"]"#, true, ColType::Int, "none")?;
-    gives(&rt, alloc, r#"["null","int","long"]"#, false, ColType::Int, "none")?;
+    gives(
+        &rt,
+        alloc,
+        r#"["null","int","long"]"#,
+        false,
+        ColType::Int,
+        "none",
+    )?;
     let uuid = r#"{"type":"fixed","name":"u","size":16,"logicalType":"uuid"}"#;
     gives(&rt, alloc, uuid, true, ColType::Uuid, "{0=;}")?;
     gives(&rt, alloc, uuid, true, ColType::Fixed(16), "none")
@@ -131,7 +169,12 @@ fn primitive_types_projected(rt: HostRuntime) -> Result<(), Fail> {
 
 #[test]
 fn decimals_projected(rt: HostRuntime) -> Result<(), Fail> {
-    for (size, precision, scale, wanted) in [(4, 9, 2, "{0=;}"), (5, 9, 2, "none"), (4, 8, 2, "none"), (4, 9, 1, "none")] {
+    for (size, precision, scale, wanted) in [
+        (4, 9, 2, "{0=;}"),
+        (5, 9, 2, "none"),
+        (4, 8, 2, "none"),
+        (4, 9, 1, "none"),
+    ] {
         let file = format!(in rt.alloc();
             r#"{{"type":"fixed","name":"d","size":{size},"logicalType":"decimal","precision":{precision},"scale":{scale}}}"#
         )?;
@@ -147,15 +190,66 @@ fn decimals_projected(rt: HostRuntime) -> Result<(), Fail> {
 #[test]
 fn nested_types_projected(rt: HostRuntime) -> Result<(), Fail> {
     let alloc = rt.alloc();
-    let record = r#"{"type":"record","name":"s","fields":[{"name":"y","type":"long","field-id":9},{"name":"z","type":["int","null"],"field-id":8}]}"#;
-    gives(&rt, alloc, record, true, struct_of_int(alloc)?, "{0{1~=;};}")?;
+    let record =
+        r#"{"type":"record","name":"s","fields":[{"name":"y","type":"long","field-id":9},{"name":"z","type":["int","null"],"field-id":8}]}"#;
+    gives(
+        &rt,
+        alloc,
+        record,
+        true,
+        struct_of_int(alloc)?,
+        "{0{1~=;};}",
+    )?;
     let strings = r#"{"type":"array","items":"string","element-id":9}"#;
-    gives(&rt, alloc, strings, true, list(alloc, false, ColType::Str)?, "{0[0+=];}")?;
-    gives(&rt, alloc, strings, true, list(alloc, true, ColType::Int)?, "none")?;
+    gives(
+        &rt,
+        alloc,
+        strings,
+        true,
+        list(alloc, false, ColType::Str)?,
+        "{0[0+=];}",
+    )?;
+    gives(
+        &rt,
+        alloc,
+        strings,
+        true,
+        list(alloc, true, ColType::Int)?,
+        "none",
+    )?;
     let longs = r#"{"type":"map","values":"int","key-id":8,"value-id":9}"#;
-    gives(&rt, alloc, longs, true, map(alloc, ColType::Str, true, ColType::Long)?, "{0<0L>;}")?;
-    gives(&rt, alloc, longs, true, map(alloc, ColType::Int, true, ColType::Int)?, "none")?;
-    let entries = r#"{"type":"array","logicalType":"map","items":{"type":"record","name":"e","fields":[{"name":"value","type":"double","field-id":9},{"name":"key","type":"int","field-id":8}]}}"#;
-    gives(&rt, alloc, entries, true, map(alloc, ColType::Int, false, ColType::Double)?, "{0[0{1=;0+=;}];}")?;
-    gives(&rt, alloc, entries, true, list(alloc, true, ColType::Int)?, "none")
+    gives(
+        &rt,
+        alloc,
+        longs,
+        true,
+        map(alloc, ColType::Str, true, ColType::Long)?,
+        "{0<0L>;}",
+    )?;
+    gives(
+        &rt,
+        alloc,
+        longs,
+        true,
+        map(alloc, ColType::Int, true, ColType::Int)?,
+        "none",
+    )?;
+    let entries =
+        r#"{"type":"array","logicalType":"map","items":{"type":"record","name":"e","fields":[{"name":"value","type":"double","field-id":9},{"name":"key","type":"int","field-id":8}]}}"#;
+    gives(
+        &rt,
+        alloc,
+        entries,
+        true,
+        map(alloc, ColType::Int, false, ColType::Double)?,
+        "{0[0{1=;0+=;}];}",
+    )?;
+    gives(
+        &rt,
+        alloc,
+        entries,
+        true,
+        list(alloc, true, ColType::Int)?,
+        "none",
+    )
 }

@@ -2,7 +2,7 @@ use Rattle.std.proofs.Common.{◌≡◌, Some, None, IfOk, sym, subst, ◌∙◌
 use Rattle.std.proofs.lemmas.Int.{to_z-of_z}
 use Rattle.std.specs.List.{position_or_len}
 use Rattle.ice_schema.specs.Kinds.{has_id}
-use Rattle.ice_schema.specs.Projections.{type_projection, field_source}
+use Rattle.ice_schema.specs.Projections.{type_projection}
 use Rattle.ice_schema.proofs.FieldLookup.{field_at}
 use Rattle.ice_schema.proofs.projecting.+projecting.Goals as goal
 
