@@ -2,8 +2,10 @@
 use Rattle.std.specs.Prelude.{ℕ, List, codes}
 use Rattle.manifest_columns.specs.declared.name.Name.{Name}
 use Rattle.manifest_columns.specs.declared.name.Name.TheVariants as names
+use Rattle.manifest_columns.specs.declared.name.RecordName.{RecordName}
+use Rattle.manifest_columns.specs.declared.name.RecordName.TheVariants as records
 
--- The name as it is written.
+-- The name of a field as it is written.
 abbrev pub name_of : Name → List ℕ
 name_of names.ManifestPath = codes "manifest_path"
 name_of names.ManifestLength = codes "manifest_length"
@@ -43,14 +45,19 @@ name_of names.EqualityIds = codes "equality_ids"
 name_of names.NanValueCounts = codes "nan_value_counts"
 name_of names.SortOrderId = codes "sort_order_id"
 name_of names.ReferencedDataFile = codes "referenced_data_file"
-name_of names.ColumnSizesRecord = codes "k117_v118"
-name_of names.ValueCountsRecord = codes "k119_v120"
-name_of names.NullValueCountsRecord = codes "k121_v122"
-name_of names.LowerBoundsRecord = codes "k126_v127"
-name_of names.UpperBoundsRecord = codes "k129_v130"
-name_of names.NanValueCountsRecord = codes "k138_v139"
-name_of names.FieldSummaryRecord = codes "r508"
-name_of names.DataFileRecord = codes "r2"
-name_of names.PartitionRecord = codes "r102"
 name_of names.Key = codes "key"
 name_of names.Value = codes "value"
+
+-- The name of a record as it is written.
+abbrev pub record_name_of : RecordName → List ℕ
+record_name_of records.ColumnSizes = codes "k117_v118"
+record_name_of records.ValueCounts = codes "k119_v120"
+record_name_of records.NullValueCounts = codes "k121_v122"
+record_name_of records.LowerBounds = codes "k126_v127"
+record_name_of records.UpperBounds = codes "k129_v130"
+record_name_of records.NanValueCounts = codes "k138_v139"
+record_name_of records.FieldSummary = codes "r508"
+record_name_of records.DataFile = codes "r2"
+record_name_of records.Partition = codes "r102"
+record_name_of records.ManifestFile = codes "manifest_file"
+record_name_of records.ManifestEntry = codes "manifest_entry"

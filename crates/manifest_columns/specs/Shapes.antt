@@ -58,22 +58,27 @@ abbrev pub item_fields : Schema-F Schema Field → Option (List Field)
 item_fields (Schema-F.List item element_id is_map) = fields_of (out-Schema item)
 item_fields _ = None
 
+-- a boolean
 abbrev pub is_bool : Schema-F Schema Field → Bool
 is_bool Schema-F.Bool = true
 is_bool _ = false
 
+-- an int
 abbrev pub is_int : Schema-F Schema Field → Bool
 is_int (Schema-F.Int logical) = is_plain logical
 is_int _ = false
 
+-- a long
 abbrev pub is_long : Schema-F Schema Field → Bool
 is_long (Schema-F.Long logical) = is_plain logical
 is_long _ = false
 
+-- a string
 abbrev pub is_text : Schema-F Schema Field → Bool
 is_text (Schema-F.Str logical) = is_plain logical
 is_text _ = false
 
+-- bytes
 abbrev pub is_bytes : Schema-F Schema Field → Bool
 is_bytes (Schema-F.Blob logical) = is_plain logical
 is_bytes _ = false

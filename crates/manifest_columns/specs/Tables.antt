@@ -5,6 +5,7 @@ use Rattle.manifest_columns.specs.declared.column.Column.{Column}
 use Rattle.manifest_columns.specs.declared.column.Kind.{Kind}
 use Rattle.manifest_columns.specs.declared.column.Kind.TheVariants.{Bool as Truth, Int, Long, Text, Bytes, Longs, Ints, IntLongs, IntBytes, Summaries, Record}
 use Rattle.manifest_columns.specs.declared.name.Name.TheVariants as names
+use Rattle.manifest_columns.specs.declared.name.RecordName.TheVariants as record_names
 
 -- one more column, where there is one
 abbrev pub put_column : Option Column → List Column → List Column
@@ -26,7 +27,7 @@ row_columns =
     ∷ record { id = pos 504; name = names.AddedFilesCount; kind = Int; may_lack = false }
     ∷ record { id = pos 505; name = names.ExistingFilesCount; kind = Int; may_lack = false }
     ∷ record { id = pos 506; name = names.DeletedFilesCount; kind = Int; may_lack = false }
-    ∷ record { id = pos 507; name = names.Partitions; kind = Summaries (pos 508) names.FieldSummaryRecord; may_lack = true }
+    ∷ record { id = pos 507; name = names.Partitions; kind = Summaries (pos 508) record_names.FieldSummary; may_lack = true }
     ∷ record { id = pos 512; name = names.AddedRowsCount; kind = Long; may_lack = false }
     ∷ record { id = pos 513; name = names.ExistingRowsCount; kind = Long; may_lack = false }
     ∷ record { id = pos 514; name = names.DeletedRowsCount; kind = Long; may_lack = false }
@@ -58,7 +59,7 @@ abbrev pub entry_columns : List Column
 entry_columns =
     record { id = pos 0; name = names.Status; kind = Int; may_lack = false }
     ∷ record { id = pos 1; name = names.SnapshotId; kind = Long; may_lack = true }
-    ∷ record { id = pos 2; name = names.DataFile; kind = Record names.DataFileRecord; may_lack = false }
+    ∷ record { id = pos 2; name = names.DataFile; kind = Record record_names.DataFile; may_lack = false }
     ∷ record { id = pos 3; name = names.SequenceNumber; kind = Long; may_lack = true }
     ∷ record { id = pos 4; name = names.FileSequenceNumber; kind = Long; may_lack = true }
     ∷ []
@@ -72,19 +73,19 @@ abbrev pub data_file_columns : List Column
 data_file_columns =
     record { id = pos 100; name = names.FilePath; kind = Text; may_lack = false }
     ∷ record { id = pos 101; name = names.FileFormat; kind = Text; may_lack = false }
-    ∷ record { id = pos 102; name = names.Partition; kind = Record names.PartitionRecord; may_lack = false }
+    ∷ record { id = pos 102; name = names.Partition; kind = Record record_names.Partition; may_lack = false }
     ∷ record { id = pos 103; name = names.RecordCount; kind = Long; may_lack = false }
     ∷ record { id = pos 104; name = names.FileSizeInBytes; kind = Long; may_lack = false }
-    ∷ record { id = pos 108; name = names.ColumnSizes; kind = IntLongs (pos 117) (pos 118) names.ColumnSizesRecord; may_lack = true }
-    ∷ record { id = pos 109; name = names.ValueCounts; kind = IntLongs (pos 119) (pos 120) names.ValueCountsRecord; may_lack = true }
-    ∷ record { id = pos 110; name = names.NullValueCounts; kind = IntLongs (pos 121) (pos 122) names.NullValueCountsRecord; may_lack = true }
-    ∷ record { id = pos 125; name = names.LowerBounds; kind = IntBytes (pos 126) (pos 127) names.LowerBoundsRecord; may_lack = true }
-    ∷ record { id = pos 128; name = names.UpperBounds; kind = IntBytes (pos 129) (pos 130) names.UpperBoundsRecord; may_lack = true }
+    ∷ record { id = pos 108; name = names.ColumnSizes; kind = IntLongs (pos 117) (pos 118) record_names.ColumnSizes; may_lack = true }
+    ∷ record { id = pos 109; name = names.ValueCounts; kind = IntLongs (pos 119) (pos 120) record_names.ValueCounts; may_lack = true }
+    ∷ record { id = pos 110; name = names.NullValueCounts; kind = IntLongs (pos 121) (pos 122) record_names.NullValueCounts; may_lack = true }
+    ∷ record { id = pos 125; name = names.LowerBounds; kind = IntBytes (pos 126) (pos 127) record_names.LowerBounds; may_lack = true }
+    ∷ record { id = pos 128; name = names.UpperBounds; kind = IntBytes (pos 129) (pos 130) record_names.UpperBounds; may_lack = true }
     ∷ record { id = pos 131; name = names.KeyMetadata; kind = Bytes; may_lack = true }
     ∷ record { id = pos 132; name = names.SplitOffsets; kind = Longs (pos 133); may_lack = true }
     ∷ record { id = pos 134; name = names.Content; kind = Int; may_lack = false }
     ∷ record { id = pos 135; name = names.EqualityIds; kind = Ints (pos 136); may_lack = true }
-    ∷ record { id = pos 137; name = names.NanValueCounts; kind = IntLongs (pos 138) (pos 139) names.NanValueCountsRecord; may_lack = true }
+    ∷ record { id = pos 137; name = names.NanValueCounts; kind = IntLongs (pos 138) (pos 139) record_names.NanValueCounts; may_lack = true }
     ∷ record { id = pos 140; name = names.SortOrderId; kind = Int; may_lack = true }
     ∷ record { id = pos 143; name = names.ReferencedDataFile; kind = Text; may_lack = true }
     ∷ []

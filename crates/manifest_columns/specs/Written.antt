@@ -9,7 +9,8 @@ use Rattle.manifest_columns.specs.declared.column.Kind.{Kind}
 use Rattle.manifest_columns.specs.declared.column.Kind.TheVariants.{Bool as Truth, Int, Long, Text, Bytes, Longs, Ints, IntLongs, IntBytes, Summaries, Record}
 use Rattle.manifest_columns.specs.declared.name.Name.{Name}
 use Rattle.manifest_columns.specs.declared.name.Name.TheVariants as names
-use Rattle.manifest_columns.specs.Name.{name_of}
+use Rattle.manifest_columns.specs.declared.name.RecordName.{RecordName}
+use Rattle.manifest_columns.specs.Name.{name_of, record_name_of}
 use Rattle.manifest_columns.specs.Tables.{written_summary_columns}
 
 -- the type of a kind that has nothing within it
@@ -35,8 +36,8 @@ abbrev pub plain_field : Column → Field
 plain_field c = field c.name c.id (nullable c.may_lack (plain_type c.kind))
 
 -- pairs of an int and of values of this kind, as an array of records that stands for a map
-abbrev pub pair_type : ℤ → ℤ → Kind → Name → Schema
-pair_type key value kind name = types.List (types.Fields (name_of name) (field names.Key key (types.Int Plain) ∷ field names.Value value (plain_type kind) ∷ [])) None true
+abbrev pub pair_type : ℤ → ℤ → Kind → RecordName → Schema
+pair_type key value kind name = types.List (types.Fields (record_name_of name) (field names.Key key (types.Int Plain) ∷ field names.Value value (plain_type kind) ∷ [])) None true
 
 -- The type of a kind. A record has no fields here: those who write one put them in.
 abbrev pub written_type : Kind → Schema
@@ -44,10 +45,14 @@ written_type (Longs element) = types.List (types.Long Plain) (Some element) fals
 written_type (Ints element) = types.List (types.Int Plain) (Some element) false
 written_type (IntLongs key value name) = pair_type key value Long name
 written_type (IntBytes key value name) = pair_type key value Bytes name
-written_type (Summaries element name) = types.List (types.Fields (name_of name) (map plain_field written_summary_columns)) (Some element) false
-written_type (Record name) = types.Fields (name_of name) []
+written_type (Summaries element name) = types.List (types.Fields (record_name_of name) (map plain_field written_summary_columns)) (Some element) false
+written_type (Record name) = types.Fields (record_name_of name) []
 written_type kind = plain_type kind
 
 -- The field of a column, with null first where it may lack.
 abbrev pub written_field : Column → Field
 written_field c = field c.name c.id (nullable c.may_lack (written_type c.kind))
+
+-- The record of these columns.
+abbrev pub written_record : RecordName → List Column → Schema
+written_record name cs = types.Fields (record_name_of name) (map written_field cs)

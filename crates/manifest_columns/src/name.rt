@@ -43,15 +43,6 @@ pub enum Name {
     NanValueCounts,
     SortOrderId,
     ReferencedDataFile,
-    ColumnSizesRecord,
-    ValueCountsRecord,
-    NullValueCountsRecord,
-    LowerBoundsRecord,
-    UpperBoundsRecord,
-    NanValueCountsRecord,
-    FieldSummaryRecord,
-    DataFileRecord,
-    PartitionRecord,
     Key,
     Value,
 }
@@ -102,17 +93,48 @@ impl Name {
             Name::NanValueCounts => "nan_value_counts",
             Name::SortOrderId => "sort_order_id",
             Name::ReferencedDataFile => "referenced_data_file",
-            Name::ColumnSizesRecord => "k117_v118",
-            Name::ValueCountsRecord => "k119_v120",
-            Name::NullValueCountsRecord => "k121_v122",
-            Name::LowerBoundsRecord => "k126_v127",
-            Name::UpperBoundsRecord => "k129_v130",
-            Name::NanValueCountsRecord => "k138_v139",
-            Name::FieldSummaryRecord => "r508",
-            Name::DataFileRecord => "r2",
-            Name::PartitionRecord => "r102",
             Name::Key => "key",
             Name::Value => "value",
+        }
+    }
+}
+
+/// A name of a record in a written schema, by what its values are.
+#[derive(Clone, Copy, Debug)]
+pub enum RecordName {
+    ColumnSizes,
+    ValueCounts,
+    NullValueCounts,
+    LowerBounds,
+    UpperBounds,
+    NanValueCounts,
+    FieldSummary,
+    DataFile,
+    Partition,
+    ManifestFile,
+    ManifestEntry,
+}
+
+impl RecordName {
+    ghost use Rattle.manifest_columns.specs.Name.{record_name_of};
+
+    /// The name as it is written: an `r` and the id of the field that has the record, a `k` and a `v` with the ids of a key
+    /// and a value, or that of a file's rows.
+    pub fn spelling(self) -> &'static str
+        ensures { result.now ≡ record_name_of self }
+    {
+        match self {
+            RecordName::ColumnSizes => "k117_v118",
+            RecordName::ValueCounts => "k119_v120",
+            RecordName::NullValueCounts => "k121_v122",
+            RecordName::LowerBounds => "k126_v127",
+            RecordName::UpperBounds => "k129_v130",
+            RecordName::NanValueCounts => "k138_v139",
+            RecordName::FieldSummary => "r508",
+            RecordName::DataFile => "r2",
+            RecordName::Partition => "r102",
+            RecordName::ManifestFile => "manifest_file",
+            RecordName::ManifestEntry => "manifest_entry",
         }
     }
 }

@@ -3,12 +3,12 @@
 ghost use Rattle.std.specs.Prelude.{◌≡◌, [], ◌∷◌, IfOk, map};
 ghost use Rattle.avro_schema.specs.declared.schema.Schema.TheVariants as types;
 ghost use Rattle.avro_schema.specs.declared.schema.Logical.TheVariants.{Plain};
-ghost use Rattle.manifest_columns.specs.Name.{name_of};
+ghost use Rattle.manifest_columns.specs.Name.{name_of, record_name_of};
 ghost use Rattle.manifest_columns.specs.Tables.{written_summary_columns};
-ghost use Rattle.manifest_columns.specs.Written.{plain_type, nullable, field, plain_field, pair_type, written_type, written_field};
+ghost use Rattle.manifest_columns.specs.Written.{plain_type, nullable, field, plain_field, pair_type, written_type, written_field, written_record};
 
 use crate::column::{Column, Kind};
-use crate::name::Name;
+use crate::name::{Name, RecordName};
 use crate::tables::written_summary_columns;
 use avro_schema::{Field, FieldList, Logical, Schema, Text};
 use sqlite_items::{Boxed, Items};
@@ -44,17 +44,17 @@ fn nullable(alloc: Global, may_lack: bool, schema: Schema) -> Result<Schema, All
     Ok(Schema::Union { branches })
 }
 
-fn text_of(alloc: Global, name: Name) -> Result<Text, AllocError>
-    ensures { IfOk result (λ t. t ≡ name_of name) }
+fn text_of(alloc: Global, name: &str) -> Result<Text, AllocError>
+    ensures { IfOk result (λ t. t ≡ name.now) }
 {
-    Ok(Text::new(String::from_str(alloc, name.spelling())?))
+    Ok(Text::new(String::from_str(alloc, name)?))
 }
 
 fn field(alloc: Global, name: Name, id: i32, schema: Schema) -> Result<Field, AllocError>
     ensures { IfOk result (λ f. f ≡ field name id schema) }
 {
     Ok(Field {
-        name: text_of(alloc, name)?,
+        name: text_of(alloc, name.spelling())?,
         schema,
         field_id: Some(id),
     })
@@ -67,11 +67,11 @@ fn plain_field(alloc: Global, column: Column) -> Result<Field, AllocError>
     field(alloc, column.name, column.id, schema)
 }
 
-fn record_of(alloc: Global, name: Name, fields: FieldList) -> Result<Schema, AllocError>
-    ensures { IfOk result (λ s. s ≡ types.Fields (name_of name) fields) }
+fn record_of(alloc: Global, name: RecordName, fields: FieldList) -> Result<Schema, AllocError>
+    ensures { IfOk result (λ s. s ≡ types.Fields (record_name_of name) fields) }
 {
     Ok(Schema::Fields {
-        name: text_of(alloc, name)?,
+        name: text_of(alloc, name.spelling())?,
         fields,
     })
 }
@@ -96,7 +96,7 @@ fn pair_type(
     key: i32,
     value: i32,
     kind: Kind,
-    name: Name,
+    name: RecordName,
 ) -> Result<Schema, AllocError>
     ensures { IfOk result (λ s. s ≡ pair_type key value kind name) }
 {
@@ -155,4 +155,15 @@ pub fn written_fields(alloc: Global, columns: &[Column]) -> Result<FieldList, Al
         fields.push(written_field(alloc, *column)?)?;
     }
     Ok(fields)
+}
+
+/// The record that is written for these columns.
+pub fn written_record(
+    alloc: Global,
+    name: RecordName,
+    columns: &[Column],
+) -> Result<Schema, AllocError>
+    ensures { IfOk result (λ s. s ≡ written_record name columns.now) }
+{
+    record_of(alloc, name, written_fields(alloc, columns)?)
 }
