@@ -1,13 +1,13 @@
 #!/usr/bin/env bash
-# Seconds of a run in the store in memory, at 1,000, 10,000 and 20,000 files: each file is created, which is one event, and
-# then asked for its size, which is one search. Beside the seconds stands by how much they grew for each doubling of the
-# files. Other counts can be given as words.
+# Seconds of a run in the store in memory, at 1,000, 10,000, 20,000 and 40,000 files: each file is created, which is one
+# event, and then asked for its size, which is one search. Beside the seconds stands by how much they grew for each doubling
+# of the files. Other counts can be given as words.
 #
-# The program is made in a folder of its own, from copies of the two crates, and is built unproved and with the checks of
-# `rt try`, which make a call many times slower than it is in a proved build: read the growth, not the seconds.
+# The program is made in a folder of its own, from copies of the two crates, and is proved and built there by `rt run`: the
+# first run takes some minutes, perhaps five alone on a machine.
 set -eu
 cd "$(dirname "$0")/.."
-[ "$#" -gt 0 ] || set -- 1000 10000 20000
+[ "$#" -gt 0 ] || set -- 1000 10000 20000 40000
 work="$(mktemp -d)"
 trap 'rm -rf "$work"' EXIT
 
@@ -80,7 +80,7 @@ fn main(rt: HostRuntime) -> Result<()> {
 }
 TEXT
 
-(cd "$work/crates/store_bench" && rt try --seconds 1800 -- "$@") >"$work/said" 2>"$work/log" ||
+(cd "$work/crates/store_bench" && rt run -- "$@") >"$work/said" 2>"$work/log" ||
     { cat "$work/said" "$work/log" >&2; exit 1; }
 date -u '+%Y-%m-%d %H:%M UTC'
 echo "processor: $(sed -n 's/^model name[^:]*: //p' /proc/cpuinfo | head -1), $(nproc) of them; load $(cut -d' ' -f1-3 /proc/loadavg)"
@@ -88,7 +88,7 @@ grep -E '^[0-9]+ [0-9]+$' "$work/said" | awk '
     BEGIN { printf "%9s %12s %14s %12s\n", "files", "seconds", "microseconds", "a doubling" }
     BEGIN { printf "%9s %12s %14s %12s\n", "", "", "a file", "" }
     {
-        printf "%9d %12.3f %14.2f ", $1, $2 / 1000000, $2 / $1
+        printf "%9d %12.4f %14.2f ", $1, $2 / 1000000, $2 / $1
         if (NR > 1 && $1 != files && $2 > 0 && micros > 0) printf "%12.2f\n", exp(log($2 / micros) * log(2) / log($1 / files)); else printf "%12s\n", "-"
         files = $1; micros = $2
     }'

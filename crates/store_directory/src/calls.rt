@@ -1,9 +1,16 @@
 //! Calls of the file system on single paths, and why one didn't do its work.
+ghost use Rattle.std.specs.Prelude.{◌≡◌, ◌≢◌, ◌↔◌, ◌≤◌, ◌<◌, length, IfOk, IsErrOf, IsUtf8, string_bytes};
+ghost use Rattle.std.specs.Io.KnownBytes.{Consumes, IsAtEnd};
+ghost use Rattle.std.specs.IoError.{error_kind};
+ghost use Rattle.ice_store.specs.Places.{text_of};
+ghost use Rattle.store_directory.specs.Paths.{IsParent, or_root};
+ghost use Rattle.store_directory.specs.declared.calls.SystemErr.TheVariants.{Memory as Lacking, Refused};
+
 use crate::whole::fill;
 use ice_store::{Bytes, Place};
 use std::alloc::{AllocError, Global};
 use std::fs::{File, Metadata};
-use std::io::{ErrorKind, Seek, SeekFrom};
+use std::io::{ErrorKind, Read, Seek, SeekFrom};
 use std::os::unix::fs::MetadataExt;
 use std::{fs, io};
 
@@ -19,13 +26,18 @@ pub enum SystemErr {
 }
 
 impl From<AllocError> for SystemErr {
+    ghost from_gives = { λ _ e. e ≡ Lacking };
+
     fn from(_: AllocError) -> Self {
         SystemErr::Memory
     }
 }
 
 /// Why a call that changes nothing failed.
-pub fn cause_of(error: io::Error) -> SystemErr {
+pub fn cause_of(error: io::Error) -> SystemErr
+    ensures memory { (result ≡ Lacking) ↔ (error_kind error ≡ ErrorKind.OutOfMemory) }
+    ensures refused { error_kind error ≢ ErrorKind.OutOfMemory → result ≡ Refused }
+{
     match error.kind() {
         ErrorKind::OutOfMemory => SystemErr::Memory,
         _ => SystemErr::Refused,
@@ -33,7 +45,10 @@ pub fn cause_of(error: io::Error) -> SystemErr {
 }
 
 /// The path of a place, for the system.
-pub fn path_of(place: &Place) -> Result<String, SystemErr> {
+pub fn path_of(place: &Place) -> Result<String, SystemErr>
+    ensures ok { IfOk result (λ path. string_bytes path ≡ text_of place.now) }
+    ensures refused { IsErrOf result Refused → IsUtf8 (text_of place.now) → ⊥ }
+{
     match String::from_utf8(place.text()?.into_inner()) {
         Ok(path) => Ok(path),
         Err(_) => Err(SystemErr::Refused),
@@ -41,11 +56,19 @@ pub fn path_of(place: &Place) -> Result<String, SystemErr> {
 }
 
 /// The path of the directory that holds a path: what stands before its last slash, or the root.
-pub fn parent_of(path: &str) -> &str {
+pub fn parent_of(path: &str) -> &str
+    ensures { IsParent path.now result.now }
+{
     match path.rsplit_once('/') {
-        Some(("", _)) | None => "/",
-        Some((parent, _)) => parent,
+        Some((before, _)) => or_root(before),
+        None => "/",
     }
+}
+
+fn or_root(text: &str) -> &str
+    ensures { result.now ≡ or_root text.now }
+{
+    if text.is_empty() { "/" } else { text }
 }
 
 /// Whether a call failed because nothing stands at its path.
@@ -129,11 +152,20 @@ fn part_of(
     // what the file has behind the offset, so that a large `len` takes no more room
     let left = size.saturating_sub(from);
     let room = usize::try_from(left).unwrap_or(usize::MAX).min(len);
-    let mut bytes = vec![in alloc; 0u8; room]?;
     if room > 0 && from > 0 && file.seek(SeekFrom::Start(from)).is_err() {
         return Err(SystemErr::Refused);
     }
-    match fill(file, bytes.as_mut_slice()) {
+    read_up_to(alloc, file, room)
+}
+
+// This many bytes of a source, or all that there are where these are fewer.
+fn read_up_to<R: Read>(alloc: Global, source: &mut R, room: usize) -> Result<Bytes, SystemErr>
+    ensures within { IfOk result (λ bytes. length bytes ≤ room) }
+    ensures taken { IfOk result (λ bytes. Consumes (R.remaining source.old) (R.remaining source.new) bytes) }
+    ensures whole { IfOk result (λ bytes. length bytes < room → IsAtEnd (R.remaining source.new)) }
+{
+    let mut bytes = vec![in alloc; 0u8; room]?;
+    match fill(source, bytes.as_mut_slice()) {
         Ok(filled) => bytes.truncate(filled),
         Err(_) => return Err(SystemErr::Refused),
     }

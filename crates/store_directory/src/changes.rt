@@ -1,5 +1,7 @@
 //! Calls that create, rename and remove regular files. Each looks first at what stands at its paths, and none replaces,
 //! opens for writing or removes anything but a regular file.
+ghost use Rattle.store_directory.specs.Noted.{KeepsNoted};
+
 use crate::calls::{
     SystemErr, check_same, is_absent, is_file, look_for_file, metadata_of, parent_of,
 };
@@ -23,7 +25,9 @@ pub fn create_file(
     path: String,
     open: &mut OpenFiles,
     changed: &mut Directories,
-) -> Result<Made, SystemErr> {
+) -> Result<Made, SystemErr>
+    ensures { KeepsNoted changed.old changed.new }
+{
     open.reserve()?;
     note_parent(rt, path.as_str(), changed)?;
     match File::create_new(rt, path.as_str()) {
@@ -60,7 +64,9 @@ pub fn remove_file(
     path: &str,
     open: &mut OpenFiles,
     changed: &mut Directories,
-) -> Result<Gone, SystemErr> {
+) -> Result<Gone, SystemErr>
+    ensures { KeepsNoted changed.old changed.new }
+{
     if !is_file(rt, path)? {
         return Ok(Gone::Absent);
     }
@@ -82,7 +88,9 @@ pub fn rename_file(
     from: &str,
     to: &str,
     changed: &mut Directories,
-) -> Result<Moved, SystemErr> {
+) -> Result<Moved, SystemErr>
+    ensures { KeepsNoted changed.old changed.new }
+{
     note_parent(rt, from, changed)?;
     note_parent(rt, to, changed)?;
     let lock = lock_path(rt, parent_of(to))?;

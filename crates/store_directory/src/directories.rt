@@ -1,5 +1,10 @@
 //! The directories that a run changes or lists: which are to be made durable, and where a symbolic link is refused.
+ghost use Rattle.std.specs.Prelude.{true, OnOk, OnErr, string_cmp};
+ghost use Rattle.std.specs.BTreeSet.{IsUnchanged, Updates};
+ghost use Rattle.store_directory.specs.Noted.{KeepsNoted, Notes, NotesParent};
+
 use crate::calls::{SystemErr, check_same, look, metadata_of, parent_of};
+use std::alloc::AllocError;
 use std::collections::BTreeSet;
 use std::fs::{self, File};
 use std::io::ErrorKind;
@@ -8,19 +13,33 @@ use std::io::ErrorKind;
 pub type Directories = BTreeSet<String>;
 
 /// Adds a directory.
-pub fn note(rt: &HostRuntime, dir: &str, noted: &mut Directories) -> Result<(), SystemErr> {
+pub fn note(rt: &HostRuntime, dir: &str, noted: &mut Directories) -> Result<(), SystemErr>
+    ensures ok { OnOk result (Notes noted.old noted.new dir.now) }
+    ensures err { OnErr result (IsUnchanged noted.old noted.new) }
+    ensures kept { KeepsNoted noted.old noted.new }
+{
     if noted.contains(dir) {
         return Ok(());
     }
     let owned = String::from_str(rt.alloc(), dir)?;
-    match noted.insert(owned) {
-        Ok(_) => Ok(()),
-        Err(_) => Err(SystemErr::Memory),
-    }
+    add(owned, noted)?;
+    Ok(())
+}
+
+fn add(dir: String, noted: &mut Directories) -> Result<(), AllocError>
+    ensures ok { OnOk result (Updates string_cmp noted.old noted.new dir true) }
+    ensures err { OnErr result (IsUnchanged noted.old noted.new) }
+{
+    noted.insert(dir)?;
+    Ok(())
 }
 
 /// Adds the directory that holds a path, before a name in it is changed.
-pub fn note_parent(rt: &HostRuntime, path: &str, noted: &mut Directories) -> Result<(), SystemErr> {
+pub fn note_parent(rt: &HostRuntime, path: &str, noted: &mut Directories) -> Result<(), SystemErr>
+    ensures ok { OnOk result (NotesParent noted.old noted.new path.now) }
+    ensures err { OnErr result (IsUnchanged noted.old noted.new) }
+    ensures kept { KeepsNoted noted.old noted.new }
+{
     note(rt, parent_of(path), noted)
 }
 
@@ -29,7 +48,9 @@ pub fn make_parents(
     rt: &HostRuntime,
     path: &str,
     changed: &mut Directories,
-) -> Result<(), SystemErr> {
+) -> Result<(), SystemErr>
+    ensures { KeepsNoted changed.old changed.new }
+{
     for end in 1..path.len() {
         match path.split_at_checked(end) {
             Some((dir, rest)) if rest.starts_with('/') => make_directory(rt, dir, changed)?,
@@ -39,7 +60,9 @@ pub fn make_parents(
     Ok(())
 }
 
-fn make_directory(rt: &HostRuntime, dir: &str, changed: &mut Directories) -> Result<(), SystemErr> {
+fn make_directory(rt: &HostRuntime, dir: &str, changed: &mut Directories) -> Result<(), SystemErr>
+    ensures { KeepsNoted changed.old changed.new }
+{
     if look(rt, dir)?.is_some() {
         return Ok(());
     }

@@ -1,4 +1,10 @@
 //! The regular files under a directory.
+ghost use Rattle.std.specs.Prelude.{IsPermutation};
+ghost use Rattle.std.specs.List.Sorted.{IsSortedByKey};
+ghost use Rattle.std.specs.Cmp.Lexicographic.{slice_cmp};
+ghost use Rattle.std.specs.Ordering.{nat_cmp, on};
+ghost use Rattle.ice_store.specs.Places.{joined};
+
 use crate::calls::{SystemErr, cause_of, is_absent, look, path_of};
 use crate::changes::LOCK_NAME;
 use crate::clock::ms_since_1970;
@@ -27,7 +33,10 @@ pub fn files_under(
     Err(SystemErr::Refused)
 }
 
-fn in_place_order(mut found: Vec<Listed>) -> ListedList {
+fn in_place_order(mut found: Vec<Listed>) -> ListedList
+    ensures same { IsPermutation found.items result }
+    ensures ordered { IsSortedByKey (λ l. l.place) (on joined (slice_cmp nat_cmp)) result }
+{
     found.sort_unstable();
     Items::new(found)
 }

@@ -1,5 +1,7 @@
 //! The files that are being written. Each keeps the descriptor that created it until it is sealed, so that an error which
 //! the system keeps for that descriptor is met there, and so that no other file is written that was put in its place.
+ghost use Rattle.std.specs.Prelude.{◌≡◌, ◌<◌, OnOk, position, bytes_eq, string_bytes, vec_len};
+
 use crate::calls::{SystemErr, check_same, look_for_file, metadata_of};
 use crate::directories::sync;
 use crate::whole::write_whole;
@@ -30,7 +32,10 @@ impl OpenFiles {
     }
 
     /// Makes room for one more, before it is created. Refused where the limit is reached.
-    pub fn reserve(&mut self) -> Result<(), SystemErr> {
+    pub fn reserve(&mut self) -> Result<(), SystemErr>
+        ensures room { OnOk result (vec_len self.old.files < 256) }
+        ensures files { self.new.files.items ≡ self.old.files.items }
+    {
         if self.files.len() >= OPEN_LIMIT {
             return Err(SystemErr::Refused);
         }
@@ -85,7 +90,9 @@ impl OpenFiles {
         Some(file)
     }
 
-    fn index_of(&self, path: &str) -> Option<usize> {
+    fn index_of(&self, path: &str) -> Option<usize>
+        ensures { result ≡ position (λ open_file. bytes_eq (string_bytes open_file.path) path.now) self.now.files.items }
+    {
         self.files
             .iter()
             .position(|open| open.path.as_str() == path)

@@ -1,6 +1,9 @@
 //! A store over the real directory.
-ghost use Rattle.std.specs.Prelude.{◌≡◌, None};
+ghost use Rattle.std.specs.Prelude.{◌≡◌, ◌||◌, None, true, false, IsTrue, IsErr, OnOk, OnErr};
+ghost use Rattle.std.specs.BTreeSet.{IsEmpty, IsUnchanged};
 ghost use Rattle.ice_store.specs.Calls.{HasCause};
+ghost use Rattle.store_directory.specs.SystemCalls.{answer_of, is_unsynced, FailsOnceLost};
+ghost use Rattle.store_directory.specs.Noted.{KeepsNoted};
 
 use crate::calls::{SystemErr, look, parent_of, path_of, read_part, size_of};
 use crate::changes::{create_file, remove_file, rename_file};
@@ -60,8 +63,12 @@ impl<M> DirStore<M> {
 impl<M> DirStore<M> {
     // Passes an answer on, and counts it where the system refused.
     fn answer<T>(&mut self, done: Result<T, SystemErr>) -> Result<T, StoreErr>
+        ensures passed { result ≡ answer_of done }
         ensures cause { HasCause self.old.faults self.new.faults result }
         ensures manners { self.new.manners ≡ self.old.manners }
+        ensures lost { self.new.is_sync_lost ≡ (self.old.is_sync_lost || is_unsynced done) }
+        ensures changed { self.new.changed ≡ self.old.changed }
+        ensures listed { self.new.is_listed ≡ self.old.is_listed }
     {
         let error = match done {
             Ok(value) => return Ok(value),
@@ -90,6 +97,8 @@ impl<M> DirStore<M> {
     fn list(&mut self, dir: &Place) -> Result<ListedList, SystemErr>
         ensures manners { self.new.manners ≡ self.old.manners }
         ensures faults { self.new.faults ≡ self.old.faults }
+        ensures lost { self.new.is_sync_lost ≡ self.old.is_sync_lost }
+        ensures kept { KeepsNoted self.old.changed self.new.changed }
     {
         let path = self.path_to(dir)?;
         if self.around.is_none() {
@@ -117,6 +126,9 @@ impl<M> DirStore<M> {
     fn create_at(&mut self, place: &Place) -> Result<Made, SystemErr>
         ensures manners { self.new.manners ≡ self.old.manners }
         ensures faults { self.new.faults ≡ self.old.faults }
+        ensures lost { self.new.is_sync_lost ≡ self.old.is_sync_lost }
+        ensures listed { self.new.is_listed ≡ self.old.is_listed }
+        ensures kept { KeepsNoted self.old.changed self.new.changed }
     {
         let path = self.path_to(place)?;
         create_file(&self.rt, path, &mut self.open, &mut self.changed)
@@ -125,6 +137,9 @@ impl<M> DirStore<M> {
     fn append_whole(&mut self, place: &Place, bytes: &[u8]) -> Result<(), SystemErr>
         ensures manners { self.new.manners ≡ self.old.manners }
         ensures faults { self.new.faults ≡ self.old.faults }
+        ensures lost { self.new.is_sync_lost ≡ self.old.is_sync_lost }
+        ensures listed { self.new.is_listed ≡ self.old.is_listed }
+        ensures changed { self.new.changed ≡ self.old.changed }
     {
         self.open.append(path_of(place)?.as_str(), bytes)
     }
@@ -132,6 +147,10 @@ impl<M> DirStore<M> {
     fn seal_file(&mut self, place: &Place) -> Result<(), SystemErr>
         ensures manners { self.new.manners ≡ self.old.manners }
         ensures faults { self.new.faults ≡ self.old.faults }
+        ensures refused { FailsOnceLost self.old.is_sync_lost result }
+        ensures lost { self.new.is_sync_lost ≡ self.old.is_sync_lost }
+        ensures listed { self.new.is_listed ≡ self.old.is_listed }
+        ensures changed { self.new.changed ≡ self.old.changed }
     {
         if self.is_sync_lost {
             return Err(SystemErr::Refused);
@@ -142,6 +161,10 @@ impl<M> DirStore<M> {
     fn rename_to(&mut self, from: &Place, to: &Place) -> Result<Moved, SystemErr>
         ensures manners { self.new.manners ≡ self.old.manners }
         ensures faults { self.new.faults ≡ self.old.faults }
+        ensures refused { IsTrue self.old.is_listed → FailsOnceLost self.old.is_sync_lost result }
+        ensures lost { self.new.is_sync_lost ≡ self.old.is_sync_lost }
+        ensures settled { OnOk result (self.new.is_listed ≡ false) }
+        ensures kept { self.new.is_listed ≡ self.old.is_listed → KeepsNoted self.old.changed self.new.changed }
     {
         let from = self.path_to(from)?;
         let to = path_of(to)?;
@@ -155,6 +178,10 @@ impl<M> DirStore<M> {
     fn remove_at(&mut self, place: &Place) -> Result<Gone, SystemErr>
         ensures manners { self.new.manners ≡ self.old.manners }
         ensures faults { self.new.faults ≡ self.old.faults }
+        ensures refused { IsTrue self.old.is_listed → FailsOnceLost self.old.is_sync_lost result }
+        ensures lost { self.new.is_sync_lost ≡ self.old.is_sync_lost }
+        ensures settled { OnOk result (self.new.is_listed ≡ false) }
+        ensures kept { self.new.is_listed ≡ self.old.is_listed → KeepsNoted self.old.changed self.new.changed }
     {
         let path = self.path_to(place)?;
         self.settle_listed()?;
@@ -165,6 +192,12 @@ impl<M> DirStore<M> {
     fn settle_listed(&mut self) -> Result<(), SystemErr>
         ensures manners { self.new.manners ≡ self.old.manners }
         ensures faults { self.new.faults ≡ self.old.faults }
+        ensures refused { IsTrue self.old.is_listed → FailsOnceLost self.old.is_sync_lost result }
+        ensures lost { self.new.is_sync_lost ≡ self.old.is_sync_lost }
+        ensures settled { OnOk result (self.new.is_listed ≡ false) }
+        ensures unsettled { OnErr result (self.new.is_listed ≡ self.old.is_listed) }
+        ensures changed { self.new.is_listed ≡ self.old.is_listed → self.new.changed ≡ self.old.changed }
+        ensures err { OnErr result (self.new.changed ≡ self.old.changed) }
     {
         if self.is_listed {
             self.sync_changed()?;
@@ -175,6 +208,12 @@ impl<M> DirStore<M> {
     fn sync_changed(&mut self) -> Result<(), SystemErr>
         ensures manners { self.new.manners ≡ self.old.manners }
         ensures faults { self.new.faults ≡ self.old.faults }
+        ensures refused { FailsOnceLost self.old.is_sync_lost result }
+        ensures lost { self.new.is_sync_lost ≡ self.old.is_sync_lost }
+        ensures settled { OnOk result (self.new.is_listed ≡ false) }
+        ensures unsettled { OnErr result (self.new.is_listed ≡ self.old.is_listed) }
+        ensures ok { OnOk result (IsEmpty self.new.changed) }
+        ensures err { OnErr result (self.new.changed ≡ self.old.changed) }
     {
         if self.is_sync_lost {
             return Err(SystemErr::Refused);

@@ -1,5 +1,5 @@
 //! Reading until a buffer is full, and writing until all is taken, over as many calls as a stream needs.
-ghost use Rattle.std.specs.Prelude.{◌≡◌, ◌≤◌, ◌<◌, length, take, IfOk};
+ghost use Rattle.std.specs.Prelude.{◌≡◌, ◌≤◌, ◌<◌, ℕ, length, take, IfOk, OnErr};
 ghost use Rattle.std.specs.Io.KnownBytes.{Consumes, IsAtEnd};
 ghost use Rattle.store_directory.specs.Whole.{TakesFront, TakesSome};
 
@@ -10,6 +10,7 @@ use std::io::{ErrorKind, Read, Write};
 pub fn fill<R: Read>(source: &mut R, buffer: &mut [u8]) -> Result<usize, Failed>
     ensures within { IfOk result (λ n. n ≤ length buffer.new) }
     ensures taken { IfOk result (λ n. Consumes (R.remaining source.old) (R.remaining source.new) (take n buffer.new)) }
+    ensures kept { OnErr result ((n : ℕ) × (n ≤ length buffer.new) × Consumes (R.remaining source.old) (R.remaining source.new) (take n buffer.new)) }
     ensures whole { IfOk result (λ n. n < length buffer.new → IsAtEnd (R.remaining source.new)) }
 {
     let mut filled = 0;

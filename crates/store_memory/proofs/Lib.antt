@@ -3,3 +3,4 @@ pub mod TellLaws
 pub mod IndexLaws
 pub mod SlotLaws
 pub mod SlotSteps
+pub mod MomentLaws

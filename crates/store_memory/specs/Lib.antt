@@ -4,4 +4,5 @@ pub mod Failing
 pub mod Given
 pub mod Sinks
 pub mod Neighbours
+pub mod Moments
 pub mod Slots

@@ -1,5 +1,5 @@
 //! A store in memory.
-ghost use Rattle.std.specs.Prelude.{◌≡◌, ◌≤◌, [], IfOk, OnOk, OnErr, Some, None};
+ghost use Rattle.std.specs.Prelude.{◌≡◌, ◌≤◌, [], true, IfOk, OnOk, OnErr, IsErrOf, Some, None};
 ghost use Rattle.ice_store.specs.History.{replay, image};
 ghost use Rattle.ice_store.specs.Others.{Acted, Answers, IsOurs};
 ghost use Rattle.ice_store.specs.Calls.{StepAnswer, HasCause, MarksFailure, Rose, failure_of, CreateAnswer, AppendAnswer, PlainAnswer, RenameAnswer, RemoveAnswer, SizeAnswer, NamesAnswer, ReadAnswer};
@@ -7,7 +7,8 @@ ghost use Rattle.ice_store.specs.declared.store.StoreErr.TheVariants.{Failed};
 ghost use Rattle.store_memory.specs.Neighbours.{next_moment};
 ghost use Rattle.store_memory.specs.Took.{Took};
 ghost use Rattle.store_memory.specs.Torn.{torn_at};
-ghost use Rattle.store_memory.specs.Failing.{fail_at, AsPlanned};
+ghost use Rattle.store_memory.specs.Failing.{fail_at, AsPlanned, takes_step, IsStepOrNone, IfFailed, FailedCreate, FailedRename, FailedRemove, FailedStep};
+ghost use Rattle.store_memory.specs.Moments.{Timed};
 
 use crate::{Choice, History, Neighbour, Quiet};
 use ice_store::{
@@ -122,6 +123,7 @@ fn others_act<M: Manners, N: Neighbour<M>>(
 ) -> Result<(), AllocError>
     ensures acted { Acted (M.allows (N.manners neighbour.old)) history.old history.new }
     ensures manners { N.manners neighbour.new ≡ N.manners neighbour.old }
+    ensures moments { Timed history.old history.new next_ms.old next_ms.new }
 {
     let steps = neighbour.act(alloc, history, *next_ms)?;
     for step in steps.inner() {
@@ -157,6 +159,7 @@ fn begin<M: Manners, N: Neighbour<M>>(store: &mut MemStore<N>) -> Result<Option<
     ensures fail { IfOk result (λ fail. fail ≡ fail_at store.old.fails store.old.calls) }
     ensures fails { store.new.fails ≡ store.old.fails }
     ensures calls { store.new.calls ≡ next_moment store.old.calls }
+    ensures moments { Timed store.old.history store.new.history store.old.next_ms store.new.next_ms }
     ensures faults { store.new.faults ≡ store.old.faults }
     ensures halted { store.new.halted ≡ store.old.halted }
 {
@@ -183,6 +186,7 @@ fn begin_reading<M: Manners, N: Neighbour<M>>(
     ensures planned { AsPlanned (fail_at store.old.fails store.old.calls) result }
     ensures fails { store.new.fails ≡ store.old.fails }
     ensures calls { store.new.calls ≡ next_moment store.old.calls }
+    ensures moments { Timed store.old.history store.new.history store.old.next_ms store.new.next_ms }
 {
     if begin::<M, N>(store)?.is_none() {
         return Ok(());
@@ -196,6 +200,7 @@ impl<N> MemStore<N> {
     fn failed(&mut self, call: StoreCall) -> StoreErr
         ensures error { result ≡ Failed }
         ensures history { self.new.history ≡ self.old.history }
+        ensures next { self.new.next_ms ≡ self.old.next_ms }
         ensures neighbour { self.new.neighbour ≡ self.old.neighbour }
         ensures fails { self.new.fails ≡ self.old.fails }
         ensures calls { self.new.calls ≡ self.old.calls }
@@ -215,6 +220,7 @@ impl<N> MemStore<N> {
     fn add(&mut self, step: Step) -> Result<(), AllocError>
         ensures ok { OnOk result (Took self.old.history self.new.history (IsOurs step)) }
         ensures err { OnErr result (self.new.history ≡ self.old.history) }
+        ensures moments { Timed self.old.history self.new.history self.old.next_ms self.new.next_ms }
         ensures neighbour { self.new.neighbour ≡ self.old.neighbour }
         ensures fails { self.new.fails ≡ self.old.fails }
         ensures calls { self.new.calls ≡ self.old.calls }
@@ -241,6 +247,8 @@ impl<N> MemStore<N> {
         ensures cause { HasCause self.old.faults self.new.faults result }
         ensures halted { MarksFailure (StoreCall.Take step) self.old.halted self.new.halted (Some self.new.history) result }
         ensures planned { AsPlanned fail result }
+        ensures failed { IsErrOf result Failed → Took self.old.history self.new.history (IsStepOrNone (takes_step fail true) step) }
+        ensures moments { Timed self.old.history self.new.history self.old.next_ms self.new.next_ms }
         ensures fails { self.new.fails ≡ self.old.fails }
         ensures calls { self.new.calls ≡ self.old.calls }
     {
@@ -271,6 +279,7 @@ impl<M: Manners, N: Neighbour<M>> Store<M> for MemStore<N> {
         ensures cause { HasCause self.old.faults self.new.faults result }
         ensures halted { MarksFailure (StoreCall.Look dir.now) self.old.halted self.new.halted (Some self.new.history) result }
         ensures planned { AsPlanned (fail_at self.old.fails self.old.calls) result }
+        ensures moments { Timed self.old.history self.new.history self.old.next_ms self.new.next_ms }
         ensures calls { self.new.calls ≡ next_moment self.old.calls }
         ensures fails { self.new.fails ≡ self.old.fails }
     {
@@ -284,6 +293,7 @@ impl<M: Manners, N: Neighbour<M>> Store<M> for MemStore<N> {
         ensures cause { HasCause self.old.faults self.new.faults result }
         ensures halted { MarksFailure (StoreCall.Look place.now) self.old.halted self.new.halted (Some self.new.history) result }
         ensures planned { AsPlanned (fail_at self.old.fails self.old.calls) result }
+        ensures moments { Timed self.old.history self.new.history self.old.next_ms self.new.next_ms }
         ensures calls { self.new.calls ≡ next_moment self.old.calls }
         ensures fails { self.new.fails ≡ self.old.fails }
     {
@@ -300,6 +310,7 @@ impl<M: Manners, N: Neighbour<M>> Store<M> for MemStore<N> {
         ensures cause { HasCause self.old.faults self.new.faults result }
         ensures halted { MarksFailure (StoreCall.Look place.now) self.old.halted self.new.halted (Some self.new.history) result }
         ensures planned { AsPlanned (fail_at self.old.fails self.old.calls) result }
+        ensures moments { Timed self.old.history self.new.history self.old.next_ms self.new.next_ms }
         ensures calls { self.new.calls ≡ next_moment self.old.calls }
         ensures fails { self.new.fails ≡ self.old.fails }
     {
@@ -316,6 +327,8 @@ impl<M: Manners, N: Neighbour<M>> Store<M> for MemStore<N> {
         ensures cause { HasCause self.old.faults self.new.faults result }
         ensures halted { MarksFailure (StoreCall.Take (Step.Create place.now)) self.old.halted self.new.halted (Some self.new.history) result }
         ensures planned { AsPlanned (fail_at self.old.fails self.old.calls) result }
+        ensures took_as_planned { IfFailed result (M.allows (N.manners self.old.neighbour)) self.old.history self.new.history (FailedCreate (fail_at self.old.fails self.old.calls) place.now) }
+        ensures moments { Timed self.old.history self.new.history self.old.next_ms self.new.next_ms }
         ensures calls { self.new.calls ≡ next_moment self.old.calls }
         ensures fails { self.new.fails ≡ self.old.fails }
     {
@@ -339,6 +352,8 @@ impl<M: Manners, N: Neighbour<M>> Store<M> for MemStore<N> {
         ensures cause { HasCause self.old.faults self.new.faults result }
         ensures halted { MarksFailure (StoreCall.Take (Step.Append place.now bytes.now)) self.old.halted self.new.halted (Some self.new.history) result }
         ensures planned { AsPlanned (fail_at self.old.fails self.old.calls) result }
+        ensures took_as_planned { IfFailed result (M.allows (N.manners self.old.neighbour)) self.old.history self.new.history (FailedStep (fail_at self.old.fails self.old.calls) (Step.Append place.now bytes.now)) }
+        ensures moments { Timed self.old.history self.new.history self.old.next_ms self.new.next_ms }
         ensures calls { self.new.calls ≡ next_moment self.old.calls }
         ensures fails { self.new.fails ≡ self.old.fails }
     {
@@ -353,6 +368,8 @@ impl<M: Manners, N: Neighbour<M>> Store<M> for MemStore<N> {
         ensures cause { HasCause self.old.faults self.new.faults result }
         ensures halted { MarksFailure (StoreCall.Take (Step.Seal place.now)) self.old.halted self.new.halted (Some self.new.history) result }
         ensures planned { AsPlanned (fail_at self.old.fails self.old.calls) result }
+        ensures took_as_planned { IfFailed result (M.allows (N.manners self.old.neighbour)) self.old.history self.new.history (FailedStep (fail_at self.old.fails self.old.calls) (Step.Seal place.now)) }
+        ensures moments { Timed self.old.history self.new.history self.old.next_ms self.new.next_ms }
         ensures calls { self.new.calls ≡ next_moment self.old.calls }
         ensures fails { self.new.fails ≡ self.old.fails }
     {
@@ -366,6 +383,8 @@ impl<M: Manners, N: Neighbour<M>> Store<M> for MemStore<N> {
         ensures cause { HasCause self.old.faults self.new.faults result }
         ensures halted { MarksFailure (StoreCall.Take (Step.Rename from.now to.now)) self.old.halted self.new.halted (Some self.new.history) result }
         ensures planned { AsPlanned (fail_at self.old.fails self.old.calls) result }
+        ensures took_as_planned { IfFailed result (M.allows (N.manners self.old.neighbour)) self.old.history self.new.history (FailedRename (fail_at self.old.fails self.old.calls) from.now to.now) }
+        ensures moments { Timed self.old.history self.new.history self.old.next_ms self.new.next_ms }
         ensures calls { self.new.calls ≡ next_moment self.old.calls }
         ensures fails { self.new.fails ≡ self.old.fails }
     {
@@ -389,6 +408,8 @@ impl<M: Manners, N: Neighbour<M>> Store<M> for MemStore<N> {
         ensures cause { HasCause self.old.faults self.new.faults result }
         ensures halted { MarksFailure (StoreCall.Take (Step.Remove place.now)) self.old.halted self.new.halted (Some self.new.history) result }
         ensures planned { AsPlanned (fail_at self.old.fails self.old.calls) result }
+        ensures took_as_planned { IfFailed result (M.allows (N.manners self.old.neighbour)) self.old.history self.new.history (FailedRemove (fail_at self.old.fails self.old.calls) place.now) }
+        ensures moments { Timed self.old.history self.new.history self.old.next_ms self.new.next_ms }
         ensures calls { self.new.calls ≡ next_moment self.old.calls }
         ensures fails { self.new.fails ≡ self.old.fails }
     {
@@ -412,6 +433,8 @@ impl<M: Manners, N: Neighbour<M>> Store<M> for MemStore<N> {
         ensures cause { HasCause self.old.faults self.new.faults result }
         ensures halted { MarksFailure (StoreCall.Take Step.SyncNames) self.old.halted self.new.halted (Some self.new.history) result }
         ensures planned { AsPlanned (fail_at self.old.fails self.old.calls) result }
+        ensures took_as_planned { IfFailed result (M.allows (N.manners self.old.neighbour)) self.old.history self.new.history (FailedStep (fail_at self.old.fails self.old.calls) Step.SyncNames) }
+        ensures moments { Timed self.old.history self.new.history self.old.next_ms self.new.next_ms }
         ensures calls { self.new.calls ≡ next_moment self.old.calls }
         ensures fails { self.new.fails ≡ self.old.fails }
     {

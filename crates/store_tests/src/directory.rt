@@ -1,5 +1,7 @@
 use ice_store::{Alone, Clock, Gone, Ids, Made, Moved, Place, Sink, Store, StoreErr, Text};
 use std::alloc::Global;
+use std::io;
+use std::io::{ErrorKind, Write};
 use std::process::Abort;
 use std::test::Fail;
 use std::{env, fs};
@@ -238,4 +240,42 @@ fn the_machine_answers(rt: HostRuntime) -> Result<(), Fail> {
     puts(&rt, &mut out, "put on the standard output\n");
     assert_eq!(rt; out.faults, 0);
     Ok(())
+}
+
+// By chance alone two are equal once in 2^128 times.
+#[test]
+fn identifiers_begin_at_random(rt: HostRuntime) -> Result<(), Fail> {
+    let first = RandomIds::draw(&rt)?.next();
+    assert!(rt; RandomIds::draw(&rt)?.next() != first);
+    Ok(())
+}
+
+// Takes all bytes, and counts its flushes, which may fail.
+#[derive(Drop)]
+struct Flushing {
+    flushes: u64,
+    fails: bool,
+}
+
+impl Write for Flushing {
+    fn write(&mut self, buf: &[u8]) -> io::Result<usize> {
+        Ok(buf.len())
+    }
+
+    fn flush(&mut self) -> io::Result<()> {
+        self.flushes = self.flushes.saturating_add(1);
+        if self.fails {
+            return Err(io::Error::from(ErrorKind::Other));
+        }
+        Ok(())
+    }
+}
+
+#[test]
+fn a_put_is_flushed(rt: HostRuntime) {
+    for fails in [false, true] {
+        let mut sink = StreamSink::new(Flushing { flushes: 0, fails });
+        assert_eq!(rt; sink.put(b"abc").is_err(), fails);
+        assert_eq!(rt; (sink.stream.flushes, sink.faults), (1, u64::from(fails)));
+    }
 }

@@ -3,6 +3,7 @@ use Rattle.ice_store.specs.Places.{Parts}
 use Rattle.ice_store.specs.History.{replay}
 use Rattle.ice_store.specs.Calls.{StepAnswer, AppendAnswer}
 use Rattle.ice_store.specs.declared.history.Step.TheVariants.{Append}
+use Rattle.store_memory.proofs.MomentLaws.{timed_then}
 use Rattle.store_memory.proofs.TellLaws.{tell, append_answer}
 use Rattle.store_memory.proofs.store.MemStoreStore.append.Goals as goal
 
@@ -14,3 +15,6 @@ returns-clause-told g c =
     c.begin.ensures.acted c.take.ensures.took
     (λ ours h. append_answer c.args.place.now c.args.bytes.now c.take.result (replay reached) ours
     (subst (λ (b : List ℕ). StepAnswer (Append c.args.place.now b) c.take.result ours) c.in_ok-bytes.ensures (subst (λ (q : Parts). StepAnswer (Append q c.in_ok-bytes.bytes) c.take.result ours) c.in_ok-copy.ensures h)))
+
+pub returns-clause-moments : goal.returns-clause-moments
+returns-clause-moments g c = timed_then _ _ _ _ _ _ c.begin.ensures.moments c.take.ensures.moments
