@@ -1,8 +1,8 @@
 -- What is spelled is read.
-use Rattle.std.proofs.Common.{◌≡◌, ℕ, ℤ, suc, ◌++◌, List, [], ◌∷◌, codes, Result, Ok, Err, refl, sym, ap, ◌∙◌, subst, append_assoc, Option, Some, None, is_some, option_and_then, cond, false}
+use Rattle.std.proofs.Common.{◌≡◌, ℕ, ℤ, suc, ◌++◌, List, [], ◌∷◌, codes, Result, Ok, Err, refl, sym, ap, ◌∙◌, subst, append_assoc, Option, Some, None, option_and_then, cond, false}
 use Rattle.std.proofs.lemmas.List.{append-nil}
 use Rattle.serde_json.specs.Data.{Data, null, boolean, number, string, array, object, Items, no_items, item}
-use Rattle.serde_json.specs.Find.{get, as_str, as_array, as_object}
+use Rattle.serde_json.specs.Find.{get, as_str, as_array}
 use Rattle.avro_schema.specs.Attribute.{text_at, id_at}
 use Rattle.avro_schema.specs.Path.{key_path, index_path}
 use Rattle.schema_types.specs.declared.types.SpecField.{SpecField}
@@ -10,7 +10,7 @@ use Rattle.schema_types.specs.declared.types.Spec.{Spec}
 use Rattle.schema_types.specs.declared.types.Transform.{Transform}
 use Rattle.schema_trees.specs.Ids.{is_seen, AreNew}
 use Rattle.schema_trees.specs.Reading.{Fault, Read, Reader, ◌>>=◌, wanted, in_object, int_in, text_in, new_id, with_first, each, field_at, spec_of}
-use Rattle.schema_trees.specs.Spelling.{SpellsEach, SpellsField, field_ids, SpellsSpec}
+use Rattle.schema_trees.specs.Spelling.{SpellsEach, SpellsField, SpellsSpec}
 use Rattle.schema_trees.specs.Words.{transform_of}
 use Rattle.schema_trees.proofs.Found.{ids_of, own_id, ids-fields}
 

@@ -1,14 +1,13 @@
 -- Trees of a list, read one after the other, as loops do.
-use Rattle.std.proofs.Common.{◌≡◌, ℕ, ℤ, zero, suc, ◌+◌, ◌<◌, ◌≤◌, List, [], ◌∷◌, ◌++◌, length, drop, get_or, Result, Ok, Err, refl, sym, ap, ◌∙◌, append_assoc, arith, add-one}
+use Rattle.std.proofs.Common.{◌≡◌, ℕ, ℤ, suc, ◌+◌, ◌<◌, ◌≤◌, List, [], ◌∷◌, ◌++◌, length, drop, get_or, Ok, Err, refl, sym, ap, ◌∙◌, append_assoc, add-one}
 use Rattle.std.proofs.lemmas.List.{append-nil, drop_all}
 use Rattle.std.proofs.Math.Seq.{drop-cons}
-use Rattle.serde_json.specs.Data.{Data}
 use Rattle.serde_json.specs.View.{view, items_view}
 use Rattle.serde_json.specs.declared.value.Value.{Value}
 use Rattle.avro_schema.specs.Path.{index_path}
 use Rattle.schema_trees.specs.declared.fault.JsonErr.{JsonErr}
 use Rattle.schema_trees.specs.declared.fault.JsonErr.TheVariants as errors
-use Rattle.schema_trees.specs.Reading.{Fault, Read, Reader, Fails, ◌>>=◌, with_first, each}
+use Rattle.schema_trees.specs.Reading.{Read, Reader, Fails, ◌>>=◌, with_first, each}
 
 abbrev pub with_front : {A : Type 0} → List A → Read (List A) → Read (List A)
 with_front front (Ok x) = Ok (front ++ x.0, x.1)

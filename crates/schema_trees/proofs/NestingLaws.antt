@@ -1,5 +1,5 @@
 -- A type within a type nests less deep.
-use Rattle.std.proofs.Common.{◌≡◌, ℕ, nat_cmp, Ordering, Less, Equal, Greater, zero, suc, ◌<◌, ◌≤◌, max, List, [], ◌∷◌, codes, Option, Some, None, option_and_then, refl, sym, ap, ◌∙◌, subst, arith}
+use Rattle.std.proofs.Common.{◌≡◌, ℕ, nat_cmp, Ordering, Less, Equal, Greater, zero, suc, ◌<◌, ◌≤◌, max, List, [], ◌∷◌, codes, Some, option_and_then, sym, ap, ◌∙◌, subst, arith}
 use Rattle.std.specs.Ordering.{match_ordering}
 use Rattle.std.specs.Cmp.Lexicographic.{slice_cmp}
 use Rattle.serde_json.specs.Data.{Data, null, boolean, number, string, array, object, Items, no_items, item, Members, no_members, member, depth, items_depth, members_depth}

@@ -1,8 +1,6 @@
 -- The clauses of the public calls.
-use Rattle.std.proofs.Common.{◌≡◌, Result, Ok, Err, sym, ap, ◌∙◌, IfOk, subst}
+use Rattle.std.proofs.Common.{Result, Ok, Err, sym, ◌∙◌, IfOk}
 use Rattle.serde_json.specs.Data.{Data}
-use Rattle.serde_json.specs.View.{view}
-use Rattle.serde_json.specs.declared.value.Value.{Value}
 use Rattle.schema_types.specs.declared.types.Schema.{Schema}
 use Rattle.schema_types.specs.declared.types.Spec.{Spec}
 use Rattle.schema_trees.specs.declared.fault.JsonErr.{JsonErr}

@@ -1,7 +1,6 @@
 -- A schema that is spelled is read.
-use Rattle.std.proofs.Common.{◌≡◌, ℕ, ℤ, zero, suc, ◌++◌, List, [], ◌∷◌, codes, map, Bool, true, false, Result, Ok, Err, refl, sym, ap, ◌∙◌, subst, append_assoc, Option, Some, None, option_and_then, cond}
+use Rattle.std.proofs.Common.{◌≡◌, ℕ, ℤ, zero, suc, ◌++◌, List, [], ◌∷◌, codes, Bool, Result, Ok, Err, sym, ap, ◌∙◌, subst, append_assoc, Option, Some, option_and_then, cond}
 use Rattle.std.proofs.lemmas.List.{append-nil}
-use Rattle.std.proofs.lemmas.Slice.Eq.{bytes_eq-Decides}
 use Rattle.serde_json.specs.Data.{Data, null, boolean, number, string, array, object, Items}
 use Rattle.serde_json.specs.Find.{get, as_str, as_array, as_bool}
 use Rattle.avro_schema.specs.Attribute.{text_at, id_at, is_text}
@@ -10,12 +9,12 @@ use Rattle.schema_types.specs.declared.types.ColType.{ColType}
 use Rattle.schema_types.specs.declared.types.ColType.TheVariants.{Struct, List as ListOf, Map}
 use Rattle.schema_types.specs.declared.types.Column.{Column}
 use Rattle.schema_types.specs.declared.types.Schema.{Schema}
-use Rattle.schema_types.specs.Ids.{joined, type_ids, column_ids}
-use Rattle.schema_trees.specs.Ids.{is_seen, AreNew}
-use Rattle.schema_trees.specs.Reading.{Fault, Read, Reader, ◌>>=◌, wanted, in_object, int_in, text_in, new_id, each}
+use Rattle.schema_types.specs.Ids.{type_ids, column_ids}
+use Rattle.schema_trees.specs.Ids.{AreNew}
+use Rattle.schema_trees.specs.Reading.{Fault, Read, Reader, ◌>>=◌, wanted, int_in, text_in, new_id, each}
 use Rattle.schema_trees.specs.Spelling.{SpellsEach}
-use Rattle.schema_trees.specs.TypeReading.{flag_in, items_in, inner_from, inner_at, list_at, map_at, column_at, struct_at, object_from, object_at, word_at, level, read, schema_of}
-use Rattle.schema_trees.specs.TypeSpelling.{SpellsColumn, SpellsLevel, a_primitive, a_list, a_map, a_struct, SpellsWithin, schema_ids, SpellsSchema}
+use Rattle.schema_trees.specs.TypeReading.{flag_in, inner_from, inner_at, list_at, map_at, column_at, struct_at, object_from, object_at, word_at, level, read, schema_of}
+use Rattle.schema_trees.specs.TypeSpelling.{SpellsColumn, SpellsLevel, a_primitive, a_list, a_map, a_struct, SpellsWithin, SpellsSchema}
 use Rattle.schema_trees.specs.TypeWords.{primitive}
 use Rattle.schema_trees.proofs.Found.{ids_of}
 use Rattle.schema_trees.proofs.Again.{IsRead, new-front, new-back, each_again, object_is, there, new_again}

@@ -1,5 +1,5 @@
 -- Numbers in texts, and the transforms that texts name.
-use Rattle.std.proofs.Common.{◌≡◌, ◌≢◌, ℕ, ◌-◌, ◌+◌, ◌<◌, ◌^◌, ◌==◌, ◌&&◌, ◌++◌, List, [], ◌∷◌, length, take, drop, nat_lt, cond, Bool, true, false, Option, Some, None, Result, Ok, refl, sym, ap, ◌∙◌, arith, ◌⊎◌, inl, inr, ◌≤◌}
+use Rattle.std.proofs.Common.{◌≡◌, ◌≢◌, ℕ, ◌-◌, ◌+◌, ◌<◌, ◌^◌, ◌==◌, ◌&&◌, ◌++◌, List, [], ◌∷◌, length, take, nat_lt, cond, Bool, true, false, Option, Some, None, Result, Ok, refl, sym, ap, ◌∙◌, arith, ◌⊎◌, inl, inr, ◌≤◌}
 use Rattle.std.proofs.lemmas.Bool.{ltb-true, lt-ltb}
 use Rattle.std.proofs.lemmas.Fmt.{decimal_is_IsNumeral, parse-decimal}
 use Rattle.std.proofs.lemmas.List.{length-append, drop_all}

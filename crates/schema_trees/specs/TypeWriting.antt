@@ -7,7 +7,7 @@ use Rattle.schema_types.specs.declared.types.ColType.{ColType, fold-ColType}
 use Rattle.schema_types.specs.declared.types.ColType.TheOpen.{ColType-F, Column-F}
 use Rattle.schema_types.specs.declared.types.Column.{Column, fold-Column}
 use Rattle.schema_types.specs.declared.types.Schema.{Schema}
-use Rattle.schema_types.specs.Depth.{type_depth, column_depth, deepest}
+use Rattle.schema_types.specs.Depth.{column_depth, deepest}
 use Rattle.schema_trees.specs.Ids.{AreNew}
 use Rattle.schema_trees.specs.TypeSpelling.{schema_ids}
 use Rattle.schema_trees.specs.Writing.{int_tree, IsInt}

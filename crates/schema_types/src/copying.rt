@@ -88,7 +88,12 @@ fn copy_type(alloc: Global, ty: &ColType) -> Result<ColType, AllocError>
             element_id,
             required,
             element,
-        } => list_of(alloc, *element_id, *required, copy_type(alloc, element.get())?)?,
+        } => list_of(
+            alloc,
+            *element_id,
+            *required,
+            copy_type(alloc, element.get())?,
+        )?,
         ColType::Map {
             key_id,
             key,

@@ -1,4 +1,4 @@
-use Rattle.std.proofs.Common.{◌≡◌, ◌+◌, ◌*◌, ◌-◌, drop}
+use Rattle.std.proofs.Common.{◌≡◌, ◌+◌, ◌*◌, drop}
 use Rattle.serde_json.specs.View.{items_view}
 use Rattle.schema_trees.specs.Reading.{each}
 use Rattle.schema_trees.specs.TypeReading.{column_at, read}

@@ -1,6 +1,6 @@
 use Rattle.std.proofs.Common.{◌==◌, Some, None, sym, ap, ◌∙◌, lit<}
 use Rattle.std.proofs.lemmas.Str.Pattern.{split_once_first}
-use Rattle.std.specs.List.{before_first, after_first}
+use Rattle.std.specs.List.{before_first}
 use Rattle.schema_trees.specs.Words.{number_of, number_before}
 use Rattle.schema_trees.specs.TypeWords.{decimal_from, behind_space, numbers_of}
 use Rattle.schema_trees.proofs.TypeWordLaws.{numbers-none}
