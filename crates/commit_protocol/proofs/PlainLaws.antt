@@ -192,7 +192,7 @@ module _ (table : Parts) (allows : Past → Step → Type 0) (mannered : IsManne
         works.works_behind S Drawn table now (IsThat at) (table_rules table allows) K (commit_end r) mark had has old b.ready new (idle_of kinds.Done b.before old b.ready b.prepared) here
 
     attempt_plain : (old new : Past) → AttemptTells table allows meanings given given' now at r mark had has old new → Leaves r old new × Does r has old new
-    attempt_plain old new (inl u) = (unasked_leaves r old new u.0 u.2, unasked_does r old new u.0 u.1 u.2)
+    attempt_plain old new (inl u) = (unasked_leaves r old new u.0 u.3, unasked_does r old new u.0 u.1 u.3)
     attempt_plain old new (inr (inl a)) =
         let run = idle_of (kind_of (commit_end r)) mark old new a.prepared in
         (answered_leaves r old new a.limit a.answer run, answered_does r old new a.answer (a.noted ∙ append-nil had) run)
@@ -214,7 +214,7 @@ module _ (table : Parts) (allows : Past → Step → Type 0) (mannered : IsManne
   pub commit_plain : (r : Result Committed CommitErr) (mark : Option Failure) (had has : List Parts) (old new : Past) → CommitTells table allows meanings given given' now r mark had has old new
       → CommitLeaves table allows meanings Drawn now r old new × CommitWorks table allows meanings Drawn now r mark had has old new
   commit_plain (Ok c) mark had has old new h = opened_plain (Ok c) mark had has old new h
-  commit_plain (Err (Open e)) mark had has old new h = h
+  commit_plain (Err (Open e)) mark had has old new h = (h.0, h.2)
   commit_plain (Err (Attempt e)) mark had has old new h = opened_plain (Err (Attempt e)) mark had has old new h
   commit_plain (Err (Contended v)) mark had has old new h = opened_plain (Err (Contended v)) mark had has old new h
   commit_plain (Err (CommitUnknown v)) mark had has old new h = opened_plain (Err (CommitUnknown v)) mark had has old new h

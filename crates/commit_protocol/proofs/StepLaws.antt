@@ -147,7 +147,7 @@ module _ (table : Parts) (allows : Past → Step → Type 0) where
       prepared_steps tree kind base before old new run = some (Prepared (Failing before new) meanings tree kind) (InState (OpenStage number base)) old new run
 
       pub round_steps : (old new : Past) → AttemptTells table allows meanings given given' now at r mark had has old new → Steps old new
-      round_steps old new (inl u) = some (Exactly []) Anything old new u.2
+      round_steps old new (inl u) = some (Exactly []) Anything old new u.3
       round_steps old new (inr (inl a)) = prepared_steps (view at.meta) (kind_of (commit_end r)) at.place mark old new a.prepared
       round_steps old new (inr (inr b)) =
           both old b.ready new (prepared_steps (view at.meta) kinds.Done at.place b.before old b.ready b.prepared) (attempt_steps (only_successor b.built) (Gives b.asked given') now at b.ready new r b.published)

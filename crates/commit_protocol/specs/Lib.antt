@@ -8,3 +8,4 @@ pub mod Ends
 pub mod Rounds
 pub mod Verdicts
 pub mod Promises
+pub mod Decided

@@ -53,6 +53,7 @@ module _ (table : Parts) (allows : Past → Step → Type 0) (meanings : Meaning
     pub answer : AnswersSo at result
     pub prepared : Prepares table allows meanings (view at.meta) (kind_of (commit_end result)) at.place mark old new
     pub met : meanings.met old new
+    pub drawn : GivesAll meanings.draws given given'
     pub noted : has ≡ had ++ meanings.made
 
   -- the change built a successor, and its publish ended so
@@ -74,7 +75,7 @@ module _ (table : Parts) (allows : Past → Step → Type 0) (meanings : Meaning
 
   -- what an attempt on an opened table tells, by its answer, the mark of a failed call, and the log's places before and behind it
   abbrev pub AttemptTells : At → Result Committed CommitErr → Option Failure → List Parts → List Parts → Past → Past → Type 0
-  AttemptTells at result mark had has old new = (IsUnasked at result × (has ≡ had) × TakesNoStep table allows old new) ⊎ (AnsweredBy at result mark had has old new ⊎ BuiltBy at result mark had has old new)
+  AttemptTells at result mark had has old new = (IsUnasked at result × (has ≡ had) × (given' ≡ given) × TakesNoStep table allows old new) ⊎ (AnsweredBy at result mark had has old new ⊎ BuiltBy at result mark had has old new)
 
   -- the table was opened, and the attempt on it told this
   pub record OpenedFirst (result : Result Committed CommitErr) (mark : Option Failure) (had has : List Parts) (old new : Past) : Type 0 where
@@ -86,7 +87,7 @@ module _ (table : Parts) (allows : Past → Step → Type 0) (meanings : Meaning
   -- what a commit tells, by its answer
   abbrev pub CommitTells : Result Committed CommitErr → Option Failure → List Parts → List Parts → Past → Past → Type 0
   CommitTells (Ok c) mark had has old new = OpenedFirst (Ok c) mark had has old new
-  CommitTells (Err (Open e)) mark had has old new = OpenErrLeaves table allows e old new × Works meanings.successor (Gives given given') table now (WasOpened table allows old) (commit_end (Err (Open e))) mark had has old new
+  CommitTells (Err (Open e)) mark had has old new = OpenErrLeaves table allows e old new × (given' ≡ given) × Works meanings.successor (Gives given given') table now (WasOpened table allows old) (commit_end (Err (Open e))) mark had has old new
   CommitTells (Err (Attempt e)) mark had has old new = OpenedFirst (Err (Attempt e)) mark had has old new
   CommitTells (Err (Contended version)) mark had has old new = OpenedFirst (Err (Contended version)) mark had has old new
   CommitTells (Err (CommitUnknown version)) mark had has old new = OpenedFirst (Err (CommitUnknown version)) mark had has old new

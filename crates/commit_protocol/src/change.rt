@@ -45,8 +45,8 @@ pub trait Change<M: Manners> {
     /// metadata is given away, so that it can be changed in place. `now` is in milliseconds since 1970-01-01 UTC.
     ///
     /// It may make files: it creates them under free names that are no version file's, appends to them and seals them, as
-    /// `takes` says by its end, and removes and renames none. Each is put into the log's `left` before its creation is
-    /// tried, in order, and stays there (`made`), also where the attempt refuses or fails. Those of a failed creation may be
+    /// `takes` says by its end, and removes and renames none. The log's `left` has them behind what it had, in order
+    /// (`made`), also where the attempt refuses or fails; and behind them, after a failed creation, its place, which may be
     /// absent. The identifiers that it draws are `draws`. After a failed call it makes no further one.
     fn attempt<S: Store<M>, I: Ids>(
         &mut self,

@@ -1,9 +1,9 @@
 //! The law of verdicts: where nobody else acts, no two answers of an opening or of a commit fit the same files. The
 //! functions here have empty bodies: their contracts are the law.
-ghost use Rattle.std.specs.Prelude.{ℕ, List, Option, Some};
-ghost use Rattle.commit_protocol.specs.Prepares.{GivesLast};
+ghost use Rattle.std.specs.Prelude.{ℕ, List, Option};
+ghost use Rattle.commit_protocol.specs.Decided.{IsOneCommitOf};
 ghost use Rattle.commit_protocol.specs.Promises.{ReopensOpened};
-ghost use Rattle.commit_protocol.specs.Verdicts.{IsOneOpening, IsOneCommit, IsDecided};
+ghost use Rattle.commit_protocol.specs.Verdicts.{IsOneOpening};
 
 use crate::change::Change;
 use ice_store::{Manners, Place};
@@ -16,8 +16,7 @@ pub fn one_opening(table: &Place)
 /// Two told verdicts of one commit are one, where the meanings of its change exclude one another and the source of
 /// identifiers tells what it gives.
 pub fn one_commit<M: Manners, X: Change<M>>(table: &Place, change: &X)
-    ensures { (now : ℕ) (before : Option (List ℕ)) (values : List ℕ) → IsDecided (X.meanings change.now change.now)
-        → IsOneCommit table.now now (X.meanings change.now change.now) (GivesLast (X.meanings change.now change.now).draws before (Some values)) }
+    ensures { (now : ℕ) (before : Option (List ℕ)) (values : List ℕ) → IsOneCommitOf table.now now (X.meanings change.now change.now) before values }
 {}
 
 /// Reopening after a stop: what a stop of a steady history leaves is opened, in a history that begins with it, as the table

@@ -48,7 +48,7 @@ returns-then-not-has_version_limit-clause-told g c =
     let none : HasVersionLimit (view at.meta) → ⊥ = λ h. true≢false (sym (c.has_version_limit.ensures.1 h) ∙ grind (arith, c.if-not-has_version_limit.true)) in
     let e = c.unreadable_limit.result in
     since_start p0 K (AttemptTells t allows meanings given given c.args.now at (Err e) mark had had) c.requires.start
-    (λ old here. inl (rounds.unasked_by t allows meanings given given c.args.now at e c.unreadable_limit.ensures none, refl, laws.starts t allows c.requires.mannered c.args.now (Gives given given) K old here))
+    (λ old here. inl (rounds.unasked_by t allows meanings given given c.args.now at e c.unreadable_limit.ensures none, refl, refl, laws.starts t allows c.requires.mannered c.args.now (Gives given given) K old here))
 
 
 pub returns-in_default-clause-told : goal.returns-in_default-clause-told
@@ -63,7 +63,7 @@ returns-in_default-clause-told g c =
     let mark = g.S.Store.halted c.args.store.now in
     let K = InState (OpenStage (number_in t) at.place) in
     since_start p0 K (AttemptTells t allows meanings given given c.args.now at (Err (Attempt (attempts.Read Memory))) mark had had) c.requires.start
-    (λ old here. inl (inl refl, refl, laws.starts t allows c.requires.mannered c.args.now (Gives given given) K old here))
+    (λ old here. inl (inl refl, refl, refl, laws.starts t allows c.requires.mannered c.args.now (Gives given given) K old here))
 
 
 pub attempt-requires-clause-start : goal.attempt-requires-clause-start
@@ -181,6 +181,7 @@ returns-in-Ok-Same-clause-told g c =
       answer = (on.version_is, same, seen);
       prepared = rounds.prepares_at t allows meanings given asked c.args.now (view meta) (view at.meta) base.place at.place kinds.Done mark old new tree on.place_is a.0;
       met = a.1;
+      drawn = c.in-Ok-Same.ensures.drawn;
       noted = c.in-Ok-Same.ensures.left;
     })))
 
@@ -213,6 +214,7 @@ returns-in-Err-clause-told g c =
       answer = refused;
       prepared = rounds.prepares_at t allows meanings given asked c.args.now (view meta) (view at.meta) base.place at.place (attempt_kind e) mark old new tree on.place_is a.0;
       met = a.1;
+      drawn = c.in-Err.ensures.drawn;
       noted = c.in-Err.ensures.left;
     })))
 

@@ -58,7 +58,7 @@ returns-in-Err-clause-told g c =
     let before = g.S.Store.halted c.args.store.now in
     since_turned p0 p2 (λ old new. OpenErrLeaves t allows e old new × works.LooksBy (Failing mark new) (commit_kind (Open e))) (CommitTells t allows meanings given given c.args.now r mark had had)
     (works.looked (commit_kind (Open e)) before mark p0 p2 (OpenErrLeaves t allows e) c.in-Err.ensures.halted c.in-Err.ensures.told)
-    (λ old new h. (h.0, works.works_none meanings.successor (Gives given given) t c.args.now (WasOpened t allows old) (table_rules t allows) Anything (Some (Open e)) mark had had old new refl h.1 (open_err_idle t allows e old new h.0)))
+    (λ old new h. (h.0, refl, works.works_none meanings.successor (Gives given given) t c.args.now (WasOpened t allows old) (table_rules t allows) Anything (Some (Open e)) mark had had old new refl h.1 (open_err_idle t allows e old new h.0)))
 
 
 pub returns-in-Ok-clause-alone : goal.returns-in-Ok-clause-alone
