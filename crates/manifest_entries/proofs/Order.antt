@@ -11,7 +11,7 @@ use Rattle.manifest_files.specs.declared.file.Content.TheVariants.{Rows}
 use Rattle.manifest_files.specs.declared.file.DataFile.{DataFile}
 use Rattle.manifest_files.specs.declared.file.FieldErr.{FieldErr}
 use Rattle.manifest_files.specs.declared.file.FieldErr.TheVariants as errors
-use Rattle.manifest_files.specs.Files.{file_cells, held_file_cells, IsFile, IsBadFileAt, OnBad}
+use Rattle.manifest_files.specs.Files.{file_cells, held_file_cells, IsFile, IsBadFileAt, ReadsFile, OnBad}
 use Rattle.manifest_entries.specs.declared.entry.Entry.{Entry}
 use Rattle.manifest_entries.specs.declared.entry.EntrySlots.{EntrySlots}
 use Rattle.manifest_entries.specs.declared.entry.EntryStatus.{EntryStatus}
@@ -69,3 +69,8 @@ no_data_file slots ds status snapshot number file_number id a b c d bad = record
 -- All fields fit.
 pub all_fit : (slots : EntrySlots) (ds : List Datum) (entry : Entry) → Some (Int (status_number entry.status)) ≡ held ds slots.status → option_map Long entry.snapshot_id ≡ held ds slots.snapshot_id → option_map Long entry.sequence_number ≡ held ds slots.sequence_number → option_map Long entry.file_sequence_number ≡ held ds slots.file_sequence_number → IsFile slots.file slots.parts (found_fields (held ds slots.data_file)) entry.data_file → entry_cells entry ≡ held_entry_cells slots ds
 all_fit slots ds entry a b c d file = conses (ap single a) (conses (ap single b) (conses (ap single c) (conses (ap single d) file)))
+
+-- The data file was refused.
+pub file_refused : (slots : EntrySlots) (ds : List Datum) (status : EntryStatus) (snapshot number file_number : Option ℤ) (e : FieldErr) → Some (Int (status_number status)) ≡ held ds slots.status → option_map Long snapshot ≡ held ds slots.snapshot_id → option_map Long number ≡ held ds slots.sequence_number → option_map Long file_number ≡ held ds slots.file_sequence_number → ReadsFile slots.file slots.parts (found_fields (held ds slots.data_file)) (Err e) → ReadsEntry slots ds (Err e)
+file_refused slots ds status snapshot number file_number errors.Memory a b c d h = tt
+file_refused slots ds status snapshot number file_number (errors.BadField id) a b c d h = no_data_file slots ds status snapshot number file_number id a b c d h

@@ -3,14 +3,14 @@
 ghost use Rattle.std.specs.Prelude.{◌≡◌, Some, IfOk, length};
 ghost use Rattle.std.specs.Option.{option_copied, option_map};
 ghost use Rattle.avro_datum.specs.declared.datum.Datum.TheVariants.{Int as of_int, Long as of_long};
-ghost use Rattle.manifest_cells.specs.Cells.{Reads};
-ghost use Rattle.manifest_files.specs.Files.{OnBad};
+ghost use Rattle.manifest_cells.specs.Cells.{Reads, held};
+ghost use Rattle.manifest_files.specs.Files.{OnBad, ReadsFile};
 ghost use Rattle.manifest_entries.specs.Entries.{NoEntry, ReadsEntry, found_fields, status_number};
 
 use crate::entry::{Entry, EntrySlots, EntryStatus};
 use avro_datum::Datum;
 use manifest_cells::{fields_in, held};
-use manifest_files::{FieldErr, file_of};
+use manifest_files::{DataFile, FieldErr, file_of};
 use std::alloc::Global;
 
 fn status_of(found: Option<&Datum>) -> Option<EntryStatus>
@@ -24,7 +24,14 @@ fn status_of(found: Option<&Datum>) -> Option<EntryStatus>
     }
 }
 
-fn optional_long_of(found: Option<&Datum>) -> Option<Option<i64>>
+fn status_at(items: &[Datum], place: Option<usize>) -> Option<EntryStatus>
+    ensures { Reads (λ x. Some (of_int (status_number x))) (held items.now place) result }
+{
+    let found = held(items, place);
+    status_of(found)
+}
+
+fn number_of(found: Option<&Datum>) -> Option<Option<i64>>
     ensures { Reads (option_map of_long) (option_copied found.entry) result }
 {
     match found {
@@ -34,6 +41,13 @@ fn optional_long_of(found: Option<&Datum>) -> Option<Option<i64>>
     }
 }
 
+fn number_at(items: &[Datum], place: Option<usize>) -> Option<Option<i64>>
+    ensures { Reads (option_map of_long) (held items.now place) result }
+{
+    let found = held(items, place);
+    number_of(found)
+}
+
 fn found_fields(found: Option<&Datum>) -> &[Datum]
     ensures { result.now ≡ found_fields (option_copied found.entry) }
 {
@@ -41,6 +55,45 @@ fn found_fields(found: Option<&Datum>) -> &[Datum]
         None => &[],
         Some(datum) => fields_in(datum),
     }
+}
+
+fn file_at(alloc: Global, slots: &EntrySlots, items: &[Datum]) -> Result<DataFile, FieldErr>
+    requires { length slots.now.file ≡ 17 }
+    ensures { ReadsFile slots.now.file slots.now.parts (found_fields (held items.now slots.now.data_file)) result }
+{
+    let found = held(items, slots.data_file);
+    let fields = found_fields(found);
+    let file = slots.file.as_slice();
+    let parts = slots.parts.as_slice();
+    file_of(alloc, file, parts, fields)
+}
+
+#[tactic(auto, using(crate::proofs::Order::no_status, crate::proofs::Order::no_snapshot, crate::proofs::Order::no_number, crate::proofs::Order::no_file_number, crate::proofs::Order::all_fit))]
+fn entry_in(alloc: Global, slots: &EntrySlots, items: &[Datum]) -> Result<Entry, FieldErr>
+    requires { length slots.now.file ≡ 17 }
+    ensures { ReadsEntry slots.now items.now result }
+{
+    let Some(status) = status_at(items, slots.status) else {
+        return Err(FieldErr::BadField(0));
+    };
+    let Some(snapshot_id) = number_at(items, slots.snapshot_id) else {
+        return Err(FieldErr::BadField(1));
+    };
+    let Some(sequence_number) = number_at(items, slots.sequence_number) else {
+        return Err(FieldErr::BadField(3));
+    };
+    let Some(file_sequence_number) = number_at(items, slots.file_sequence_number) else {
+        return Err(FieldErr::BadField(4));
+    };
+    let data_file = file_at(alloc, slots, items)?;
+    Ok(Entry {
+        status,
+        snapshot_id,
+        sequence_number,
+        file_sequence_number,
+        data_file,
+        at: 0,
+    })
 }
 
 /// The entry that a record of the file stands for, which begins at `at`. `BadField` has the smallest id that holds no value of
@@ -59,27 +112,7 @@ pub fn entry_of(
     // A field is refused only where the record stands for no entry.
     ensures none { OnBad result (NoEntry slots.now items.now) }
 {
-    let Some(status) = status_of(held(items, slots.status)) else {
-        return Err(FieldErr::BadField(0));
-    };
-    let Some(snapshot_id) = optional_long_of(held(items, slots.snapshot_id)) else {
-        return Err(FieldErr::BadField(1));
-    };
-    let Some(sequence_number) = optional_long_of(held(items, slots.sequence_number)) else {
-        return Err(FieldErr::BadField(3));
-    };
-    let Some(file_sequence_number) = optional_long_of(held(items, slots.file_sequence_number))
-    else {
-        return Err(FieldErr::BadField(4));
-    };
-    let fields = found_fields(held(items, slots.data_file));
-    let data_file = file_of(alloc, slots.file.as_slice(), slots.parts.as_slice(), fields)?;
-    Ok(Entry {
-        status,
-        snapshot_id,
-        sequence_number,
-        file_sequence_number,
-        data_file,
-        at,
-    })
+    let mut entry = entry_in(alloc, slots, items)?;
+    entry.at = at;
+    Ok(entry)
 }

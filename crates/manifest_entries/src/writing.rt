@@ -38,7 +38,6 @@ pub fn entry_fields(alloc: Global, entry: &Entry) -> Result<DatumList, AllocErro
 }
 
 /// The record of an entry that was read, under the written schema, stands for that entry.
-#[tactic(auto, using(crate::proofs::Back::read_back))]
 pub fn entries_are_read_back()
     ensures { EntriesAreReadBack }
 {}

@@ -13,7 +13,7 @@ use sqlite_items::Items;
 use std::alloc::{AllocError, Global};
 
 /// Where the partition records of a file have a field of the partition type, and how its values count.
-#[derive(Clone, Copy, Debug)]
+#[derive(Debug, Drop)]
 pub struct PartSlot {
     pub place: Option<usize>,
     /// Whether the field's transform is void: each value counts as null.
@@ -56,8 +56,8 @@ fn scalar(is_long: bool, value: &Datum) -> Result<Option<Datum>, AllocError>
     }))
 }
 
-fn part_value(slot: PartSlot, found: Option<&Datum>) -> Result<Option<Datum>, AllocError>
-    ensures { IfOk result (λ r. r ≡ part_value slot (option_copied found.entry)) }
+fn part_value(slot: &PartSlot, found: Option<&Datum>) -> Result<Option<Datum>, AllocError>
+    ensures { IfOk result (λ r. r ≡ part_value slot.now (option_copied found.entry)) }
 {
     match found {
         None => Ok(Some(Datum::Null)),
@@ -75,10 +75,9 @@ fn part_value(slot: PartSlot, found: Option<&Datum>) -> Result<Option<Datum>, Al
 fn part_in(fields: &[Datum], slot: &PartSlot) -> Result<Option<Datum>, AllocError>
     ensures { IfOk result (λ r. r ≡ part_in fields.now slot.now) }
 {
-    part_value(*slot, held(fields, slot.place))
+    part_value(slot, held(fields, slot.place))
 }
 
-#[tactic(auto, using(crate::proofs::Parts::all_are_there))]
 fn part_values(
     alloc: Global,
     fields: &[Datum],

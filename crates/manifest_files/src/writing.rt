@@ -46,7 +46,6 @@ fn field_of(alloc: Global, place: usize, file: &DataFile) -> Result<Datum, Alloc
 }
 
 /// The fields of a data file's record, in the order in which they are written.
-#[tactic(auto, using(crate::proofs::Order::field_count))]
 pub fn file_fields(alloc: Global, file: &DataFile) -> Result<DatumList, AllocError>
     requires records { file.now.record_count < 2 ^ 63 }
     requires size { file.now.file_size_in_bytes < 2 ^ 63 }
