@@ -1,0 +1,5 @@
+pub mod Parts
+pub mod InOrder
+pub mod Order
+pub mod PartBack
+pub mod Back

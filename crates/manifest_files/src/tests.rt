@@ -1,0 +1,122 @@
+//! Data files as bytes by hand, after the Avro specification's "Binary Encoding" and the Iceberg specification's "Manifests".
+
+use super::*;
+use crate::partition::set_partition;
+use avro_datum::{Datum, DatumList, decode};
+use avro_schema::Schema;
+use manifest_cells::{null, some};
+use manifest_columns::{
+    RecordName, SlotList, data_file_columns, slots_of, written_data_file_columns, written_fields,
+    written_record,
+};
+use sqlite_items::Items;
+use std::alloc::{AllocError, Global};
+use std::process::Abort;
+use std::test::Fail;
+
+/// Equality deletes at /d in avro, 3 records, 100 bytes, with sizes, counts and bounds of column 1, key metadata k, a split
+/// at 4, the id 1, the sort order 0 and the data file /d.
+const FULL: &[u8] =
+    b"\x04\x04/d\x08avro\x06\xc8\x01\x02\x02\x02\x50\x00\x02\x02\x02\x06\x00\x02\x02\x02\x02\x00\x02\x02\x02\x00\x00\x02\x02\x02\x02a\x00\x02\x02\x02\x02z\x00\x02\x02k\x02\x02\x08\x00\x02\x02\x02\x00\x02\x00\x02\x04/d";
+
+/// Rows at /a in avro, 3 records, 100 bytes, and nothing more.
+const BARE: &[u8] = b"\x00\x04/a\x08avro\x06\xc8\x01\x00\x00\x00\x00\x00\x00\x00\x00\x00\x00\x00";
+
+/// A content of 3, -1 records, -1 bytes, and all of these.
+const BAD: [(&[u8], i32); 4] = [
+    (b"\x06\x00\x00\x00\x00\x00\x00\x00\x00\x00\x00\x00\x00\x00\x00\x00", 134),
+    (b"\x00\x00\x00\x01\x00\x00\x00\x00\x00\x00\x00\x00\x00\x00\x00\x00", 103),
+    (b"\x00\x00\x00\x00\x01\x00\x00\x00\x00\x00\x00\x00\x00\x00\x00\x00", 104),
+    (b"\x06\x00\x00\x01\x01\x00\x00\x00\x00\x00\x00\x00\x00\x00\x00\x00", 103),
+];
+
+fn schema(alloc: Global) -> Result<Schema, AllocError> {
+    written_record(alloc, RecordName::DataFile, &written_data_file_columns())
+}
+
+fn slots(alloc: Global) -> Result<SlotList, AllocError> {
+    let fields = written_fields(alloc, &written_data_file_columns())?;
+    slots_of(alloc, fields.as_slice(), &data_file_columns())
+}
+
+/// The data file that the bytes spell, where no partition has a field.
+fn file(alloc: Global, bytes: &[u8]) -> Result<DataFile, FieldErr> {
+    let slots = slots(alloc)?;
+    if slots.len() != 17 {
+        return Err(FieldErr::BadField(-1));
+    }
+    match decode(alloc, &schema(alloc)?, bytes, 0) {
+        Ok((Datum::Fields(items), _)) => file_of(alloc, slots.as_slice(), &[], items.as_slice()),
+        _ => Err(FieldErr::BadField(-2)),
+    }
+}
+
+fn is_written_again(rt: &impl Abort, alloc: Global, bytes: &[u8]) -> Result<(), Fail> {
+    let file = file(alloc, bytes)?;
+    assert!(rt; file.record_count == 3 && file.file_size_in_bytes == 100);
+    let written = Datum::Fields(file_fields(alloc, &file)?);
+    let (spelled, _) = decode(alloc, &schema(alloc)?, bytes, 0)?;
+    assert_eq!(rt; format!(in alloc; "{written:?}")?.as_str(), format!(in alloc; "{spelled:?}")?.as_str());
+    Ok(())
+}
+
+#[test]
+fn files_both_ways(rt: HostRuntime) -> Result<(), Fail> {
+    is_written_again(&rt, rt.alloc(), FULL)?;
+    is_written_again(&rt, rt.alloc(), BARE)?;
+    files_are_read_back();
+    Ok(())
+}
+
+#[test]
+fn files_with_a_bad_field(rt: HostRuntime) -> Result<(), Fail> {
+    for (bytes, id) in BAD {
+        let found = match file(rt.alloc(), bytes) {
+            Err(FieldErr::BadField(id)) => Some(id),
+            _ => None,
+        };
+        assert_eq!(rt; found, Some(id));
+    }
+    Ok(())
+}
+
+/// 5, and 7 in a union.
+fn partition(alloc: Global) -> Result<DatumList, AllocError> {
+    let mut fields = Items::new(alloc);
+    fields.push(Datum::Int(5))?;
+    fields.push(some(alloc, Datum::Int(7))?)?;
+    fields.push(null(alloc)?)?;
+    Ok(fields)
+}
+
+fn part(place: Option<usize>, is_void: bool, is_long: bool) -> PartSlot {
+    PartSlot {
+        place,
+        is_void,
+        is_long,
+    }
+}
+
+#[test]
+fn partitions(rt: HostRuntime) -> Result<(), Fail> {
+    let found = Datum::Fields(partition(rt.alloc())?);
+    let slots = [
+        part(Some(1), false, true),
+        part(Some(0), true, false),
+        part(Some(0), false, false),
+        part(Some(2), false, false),
+        part(None, false, true),
+    ];
+    let mut read = Datum::Null;
+    assert!(rt; set_partition(rt.alloc(), Some(&found), &slots, &mut read)?);
+    let text = format!(in rt.alloc(); "{read:?}")?;
+    let mut wanted = Items::new(rt.alloc());
+    wanted.push(Datum::Long(7))?;
+    wanted.push(Datum::Null)?;
+    wanted.push(Datum::Int(5))?;
+    wanted.push(Datum::Null)?;
+    wanted.push(Datum::Null)?;
+    let wanted = Datum::Fields(wanted);
+    assert_eq!(rt; text.as_str(), format!(in rt.alloc(); "{wanted:?}")?.as_str());
+    Ok(())
+}
