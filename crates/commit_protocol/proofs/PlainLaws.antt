@@ -207,9 +207,10 @@ module _ (table : Parts) (allows : Past → Step → Type 0) (mannered : IsManne
         let at = o.at in
         let mid = o.mid in
         let p = attempt_plain at r mark had has mid new o.then in
-        let turned = works.works_turned S S Drawn table now (IsThat at) (WasOpened table allows old) (λ place last text tree that. record { at = at; mid = mid; opened = o.opened; that = that }) (λ place last text tree next that is. is) (commit_end r) mark had has mid new p.1 in
-        (laws.committed_by table allows now Drawn meanings at r old mid new o.opened p.0,
-        works.works_behind S Drawn table now (WasOpened table allows old) (table_rules table allows) Anything (commit_end r) mark had has old mid new (opened_idle table allows at.place at.text old mid o.opened.opened) turned)
+        let turned = works.works_turned S S Drawn table now (IsThat at) (WasOpened table allows old) (λ place last text tree that. record { at = at; mid = mid; opened = o.opened; that = that }) (λ place last text tree next that is. is) (commit_end r) mark had has mid new p.1 in (
+          laws.committed_by table allows now Drawn meanings at r old mid new o.opened p.0,
+          works.works_behind S Drawn table now (WasOpened table allows old) (table_rules table allows) Anything (commit_end r) mark had has old mid new (opened_idle table allows at.place at.text old mid o.opened.opened) turned,
+        )
 
   pub commit_plain : (r : Result Committed CommitErr) (mark : Option Failure) (had has : List Parts) (old new : Past) → CommitTells table allows meanings given given' now r mark had has old new
       → CommitLeaves table allows meanings Drawn now r old new × CommitWorks table allows meanings Drawn now r mark had has old new

@@ -264,7 +264,7 @@ module _ (table : Parts) (allows : Past → Step → Type 0) (nobody : IsNobody 
             let made_so = run.made.noted ∙ ap (λ (l : List Parts). made_by 0 [] (ours run.events) ++ l) run.made.cause ∙ append-nil (made_by 0 [] (ours run.events)) in
             let names : (place : Parts) → is_named (replay b.ready).files place ≡ named_beside meanings.made (replay old).files place =
             λ place. ap (λ (p : Past). is_named (replay p).files place) run.is ∙ named_after (table_rules table allows) nobody place mid run.events meanings.made run.proper run.made.only made_so
-                ∙ ap (λ (p : Past). named_beside meanings.made (replay p).files place) same_mid in
+            ∙ ap (λ (p : Past). named_beside meanings.made (replay p).files place) same_mid in
             let room : (place : Parts) → 0 < number place → is_named (replay mid).files place ≡ false → is_named (replay b.ready).files place ≡ false =
             λ place pos at_first. ap (λ (p : Past). is_named (replay p).files place) run.is ∙ still_free (table_rules table allows) nobody place pos mid run.events run.proper (plain_of (ours run.events) run.made.only) at_first in
             built_ends b.built b.is b.limit b.asked (λ id one. gives_last meanings.draws given b.asked given' id b.drawn one) b.ready new names room r b.published

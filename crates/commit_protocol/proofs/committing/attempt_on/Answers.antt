@@ -50,7 +50,6 @@ returns-then-not-has_version_limit-clause-told g c =
     since_start p0 K (AttemptTells t allows meanings given given c.args.now at (Err e) mark had had) c.requires.start
     (λ old here. inl (rounds.unasked_by t allows meanings given given c.args.now at e c.unreadable_limit.ensures none, refl, refl, laws.starts t allows c.requires.mannered c.args.now (Gives given given) K old here))
 
-
 pub returns-in_default-clause-told : goal.returns-in_default-clause-told
 returns-in_default-clause-told g c =
     let t = c.args.table.now in
@@ -64,7 +63,6 @@ returns-in_default-clause-told g c =
     let K = InState (OpenStage (number_in t) at.place) in
     since_start p0 K (AttemptTells t allows meanings given given c.args.now at (Err (Attempt (attempts.Read Memory))) mark had had) c.requires.start
     (λ old here. inl (inl refl, refl, refl, laws.starts t allows c.requires.mannered c.args.now (Gives given given) K old here))
-
 
 pub attempt-requires-clause-start : goal.attempt-requires-clause-start
 attempt-requires-clause-start g c =
@@ -151,7 +149,6 @@ returns-in-Ok-Next-clause-told g c =
       noted = noted;
     })))
 
-
 pub returns-in-Ok-Same-clause-told : goal.returns-in-Ok-Same-clause-told
 returns-in-Ok-Same-clause-told g c =
     let t = c.args.table.now in
@@ -185,7 +182,6 @@ returns-in-Ok-Same-clause-told g c =
       noted = c.in-Ok-Same.ensures.left;
     })))
 
-
 pub returns-in-Err-clause-told : goal.returns-in-Err-clause-told
 returns-in-Err-clause-told g c =
     let t = c.args.table.now in
@@ -217,7 +213,6 @@ returns-in-Err-clause-told g c =
       drawn = c.in-Err.ensures.drawn;
       noted = c.in-Err.ensures.left;
     })))
-
 
 pub returns-then-not-has_version_limit-clause-cause : goal.returns-then-not-has_version_limit-clause-cause
 returns-then-not-has_version_limit-clause-cause g c = ends.limit_counts c.args.at.place c.unreadable_limit.result (g.S.Store.faults c.args.store.now) c.unreadable_limit.ensures

@@ -42,7 +42,6 @@ returns-in-Ok-clause-told g c =
     c.in-Ok.ensures.told then
     (λ old mid new opened a. rounds.tells_by t allows meanings given last c.args.now at r mark had has old mid new c.attempt_on.ensures.unopened opened a)
 
-
 pub returns-in-Err-clause-told : goal.returns-in-Err-clause-told
 returns-in-Err-clause-told g c =
     let t = c.args.table.now in
@@ -60,7 +59,6 @@ returns-in-Err-clause-told g c =
     (works.looked (commit_kind (Open e)) before mark p0 p2 (OpenErrLeaves t allows e) c.in-Err.ensures.halted c.in-Err.ensures.told)
     (λ old new h. (h.0, refl, works.works_none meanings.successor (Gives given given) t c.args.now (WasOpened t allows old) (table_rules t allows) Anything (Some (Open e)) mark had had old new refl h.1 (open_err_idle t allows e old new h.0)))
 
-
 pub returns-in-Ok-clause-alone : goal.returns-in-Ok-clause-alone
 returns-in-Ok-clause-alone g c nobody =
     let t = c.args.table.now in
@@ -76,7 +74,6 @@ returns-in-Ok-clause-alone g c nobody =
     let has = c.attempt_on.new.log.left.items in
     since_turned p0 p2 (CommitTells t allows meanings given last c.args.now r mark had has) (IsCausedOf meanings given last t c.args.now r) (returns-in-Ok-clause-told g c)
     (λ old new h. commit_ends t allows nobody meanings given last c.args.now r mark had has old new h)
-
 
 pub returns-in-Ok-clause-exactly : goal.returns-in-Ok-clause-exactly
 returns-in-Ok-clause-exactly g c =
@@ -94,7 +91,6 @@ returns-in-Ok-clause-exactly g c =
     since_turned p0 p2 (CommitTells t allows meanings given last c.args.now r mark had has) (IsExactlyOf allows meanings given last t c.args.now r) (returns-in-Ok-clause-told g c)
     (λ old new h. exactly t allows meanings given last c.args.now r mark had has old new h)
 
-
 pub returns-in-Err-clause-exactly : goal.returns-in-Err-clause-exactly
 returns-in-Err-clause-exactly g c =
     let t = c.args.table.now in
@@ -108,7 +104,6 @@ returns-in-Err-clause-exactly g c =
     let r = Err (Open c.in-Err.e) in
     since_turned p0 p2 (CommitTells t allows meanings given given c.args.now r mark had had) (IsExactlyOf allows meanings given given t c.args.now r) (returns-in-Err-clause-told g c)
     (λ old new h. exactly t allows meanings given given c.args.now r mark had had old new h)
-
 
 pub returns-in-Ok-clause-prefix : goal.returns-in-Ok-clause-prefix
 returns-in-Ok-clause-prefix g c =
@@ -125,7 +120,6 @@ returns-in-Ok-clause-prefix g c =
     let has = c.attempt_on.new.log.left.items in
     stops_have_prefix t allows meanings given last c.args.now r mark had has p0 p2 (returns-in-Ok-clause-told g c)
 
-
 pub returns-in-Err-clause-prefix : goal.returns-in-Err-clause-prefix
 returns-in-Err-clause-prefix g c =
     let t = c.args.table.now in
@@ -138,7 +132,6 @@ returns-in-Err-clause-prefix g c =
     let had = c.args.log.now.left.items in
     let r = Err (Open c.in-Err.e) in
     stops_have_prefix t allows meanings given given c.args.now r mark had had p0 p2 (returns-in-Err-clause-told g c)
-
 
 pub returns-in-Ok-clause-files : goal.returns-in-Ok-clause-files
 returns-in-Ok-clause-files g c =
@@ -155,7 +148,6 @@ returns-in-Ok-clause-files g c =
     let has = c.attempt_on.new.log.left.items in
     stops_have_files t allows meanings given last c.args.now r mark had has p0 p2 (returns-in-Ok-clause-told g c)
 
-
 pub returns-in-Err-clause-files : goal.returns-in-Err-clause-files
 returns-in-Err-clause-files g c =
     let t = c.args.table.now in
@@ -168,7 +160,6 @@ returns-in-Err-clause-files g c =
     let had = c.args.log.now.left.items in
     let r = Err (Open c.in-Err.e) in
     stops_have_files t allows meanings given given c.args.now r mark had had p0 p2 (returns-in-Err-clause-told g c)
-
 
 pub returns-in-Ok-clause-successors : goal.returns-in-Ok-clause-successors
 returns-in-Ok-clause-successors g c nobody =
@@ -185,7 +176,6 @@ returns-in-Ok-clause-successors g c nobody =
     let has = c.attempt_on.new.log.left.items in
     each_succeeds t allows meanings given last c.args.now r mark had has p0 p2 nobody (returns-in-Ok-clause-told g c)
 
-
 pub returns-in-Err-clause-successors : goal.returns-in-Err-clause-successors
 returns-in-Err-clause-successors g c nobody =
     let t = c.args.table.now in
@@ -198,7 +188,6 @@ returns-in-Err-clause-successors g c nobody =
     let had = c.args.log.now.left.items in
     let r = Err (Open c.in-Err.e) in
     each_succeeds t allows meanings given given c.args.now r mark had had p0 p2 nobody (returns-in-Err-clause-told g c)
-
 
 pub returns-in-Err-clause-opening : goal.returns-in-Err-clause-opening
 returns-in-Err-clause-opening g c e is =
