@@ -24,6 +24,4 @@ pub use writing::{
     content, count, null, optional_bool, optional_bytes, optional_int, optional_long,
     optional_text, some,
 };
-pub use written_lists::{
-    optional_int_bytes, optional_int_longs, optional_ints, optional_longs,
-};
+pub use written_lists::{optional_int_bytes, optional_int_longs, optional_ints, optional_longs};

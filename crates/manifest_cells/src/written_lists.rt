@@ -74,10 +74,7 @@ fn ints(alloc: Global, numbers: &[i32]) -> Result<DatumList, AllocError>
 }
 
 /// Ints with longs, which may lack.
-pub fn optional_int_longs(
-    alloc: Global,
-    pairs: &Option<IntLongList>,
-) -> Result<Datum, AllocError>
+pub fn optional_int_longs(alloc: Global, pairs: &Option<IntLongList>) -> Result<Datum, AllocError>
     ensures { IfOk result (λ d. d ≡ optional (option_map (array_of int_long_record) pairs.now)) }
 {
     match pairs {
@@ -87,15 +84,15 @@ pub fn optional_int_longs(
 }
 
 /// Ints with bytes, which may lack.
-pub fn optional_int_bytes(
-    alloc: Global,
-    pairs: &Option<IntBytesList>,
-) -> Result<Datum, AllocError>
+pub fn optional_int_bytes(alloc: Global, pairs: &Option<IntBytesList>) -> Result<Datum, AllocError>
     ensures { IfOk result (λ d. d ≡ optional (option_map (array_of int_bytes_record) pairs.now)) }
 {
     match pairs {
         None => null(alloc),
-        Some(pairs) => some(alloc, Datum::List(int_bytes_items(alloc, pairs.as_slice())?)),
+        Some(pairs) => some(
+            alloc,
+            Datum::List(int_bytes_items(alloc, pairs.as_slice())?),
+        ),
     }
 }
 

@@ -152,30 +152,36 @@ fn written(alloc: Global, name: RecordName, columns: &[Column]) -> Result<String
 #[test]
 fn written_row_schema(rt: HostRuntime) -> Result<(), Fail> {
     let text = written(rt.alloc(), RecordName::ManifestFile, &written_row_columns())?;
-    assert_eq!(rt; text.as_str(), concat!(
-        r#"{"fields":[{"field-id":500,"name":"manifest_path","type":"string"},{"field-id":501,"name":"manifest_length","type":"long"},"#,
-        r#"{"field-id":502,"name":"partition_spec_id","type":"int"},{"field-id":517,"name":"content","type":"int"},"#,
-        r#"{"field-id":515,"name":"sequence_number","type":"long"},{"field-id":516,"name":"min_sequence_number","type":"long"},"#,
-        r#"{"field-id":503,"name":"added_snapshot_id","type":"long"},{"field-id":504,"name":"added_files_count","type":"int"},"#,
-        r#"{"field-id":505,"name":"existing_files_count","type":"int"},{"field-id":506,"name":"deleted_files_count","type":"int"},"#,
-        r#"{"field-id":512,"name":"added_rows_count","type":"long"},{"field-id":513,"name":"existing_rows_count","type":"long"},"#,
-        r#"{"field-id":514,"name":"deleted_rows_count","type":"long"},{"default":null,"field-id":507,"name":"partitions","type":["null","#,
-        r#"{"element-id":508,"items":{"fields":[{"field-id":509,"name":"contains_null","type":"boolean"},"#,
-        r#"{"default":null,"field-id":518,"name":"contains_nan","type":["null","boolean"]},"#,
-        r#"{"default":null,"field-id":510,"name":"lower_bound","type":["null","bytes"]},"#,
-        r#"{"default":null,"field-id":511,"name":"upper_bound","type":["null","bytes"]}],"name":"r508","type":"record"},"type":"array"}]},"#,
-        r#"{"default":null,"field-id":519,"name":"key_metadata","type":["null","bytes"]}],"name":"manifest_file","type":"record"}"#
-    ));
+    assert_eq!(rt;
+        text.as_str(),
+        concat!(
+            r#"{"fields":[{"field-id":500,"name":"manifest_path","type":"string"},{"field-id":501,"name":"manifest_length","type":"long"},"#,
+            r#"{"field-id":502,"name":"partition_spec_id","type":"int"},{"field-id":517,"name":"content","type":"int"},"#,
+            r#"{"field-id":515,"name":"sequence_number","type":"long"},{"field-id":516,"name":"min_sequence_number","type":"long"},"#,
+            r#"{"field-id":503,"name":"added_snapshot_id","type":"long"},{"field-id":504,"name":"added_files_count","type":"int"},"#,
+            r#"{"field-id":505,"name":"existing_files_count","type":"int"},{"field-id":506,"name":"deleted_files_count","type":"int"},"#,
+            r#"{"field-id":512,"name":"added_rows_count","type":"long"},{"field-id":513,"name":"existing_rows_count","type":"long"},"#,
+            r#"{"field-id":514,"name":"deleted_rows_count","type":"long"},{"default":null,"field-id":507,"name":"partitions","type":["null","#,
+            r#"{"element-id":508,"items":{"fields":[{"field-id":509,"name":"contains_null","type":"boolean"},"#,
+            r#"{"default":null,"field-id":518,"name":"contains_nan","type":["null","boolean"]},"#,
+            r#"{"default":null,"field-id":510,"name":"lower_bound","type":["null","bytes"]},"#,
+            r#"{"default":null,"field-id":511,"name":"upper_bound","type":["null","bytes"]}],"name":"r508","type":"record"},"type":"array"}]},"#,
+            r#"{"default":null,"field-id":519,"name":"key_metadata","type":["null","bytes"]}],"name":"manifest_file","type":"record"}"#
+        )
+    );
     Ok(())
 }
 
 #[test]
 fn written_map_schema(rt: HostRuntime) -> Result<(), Fail> {
     let text = written(rt.alloc(), RecordName::DataFile, &one_column(108))?;
-    assert_eq!(rt; text.as_str(), concat!(
-        r#"{"fields":[{"default":null,"field-id":108,"name":"column_sizes","type":["null",{"items":{"fields":["#,
-        r#"{"field-id":117,"name":"key","type":"int"},{"field-id":118,"name":"value","type":"long"}],"#,
-        r#""name":"k117_v118","type":"record"},"logicalType":"map","type":"array"}]}],"name":"r2","type":"record"}"#
-    ));
+    assert_eq!(rt;
+        text.as_str(),
+        concat!(
+            r#"{"fields":[{"default":null,"field-id":108,"name":"column_sizes","type":["null",{"items":{"fields":["#,
+            r#"{"field-id":117,"name":"key","type":"int"},{"field-id":118,"name":"value","type":"long"}],"#,
+            r#""name":"k117_v118","type":"record"},"logicalType":"map","type":"array"}]}],"name":"r2","type":"record"}"#
+        )
+    );
     Ok(())
 }

@@ -11,11 +11,11 @@ pub returns-then-not-fits : goal.returns-then-not-fits
 returns-then-not-fits c =
     let fits : FitsSigned w32 c.id_at.result = search rules in
     record {
-  place = c.loop-place.place;
-  has_id = c.id_at.ensures ∙ ap Some (sym (to_z-of_z w32 c.id_at.result fits));
-  fits_before = (c.loop-place.row, c.loop-place.invariant);
-  fits_not = λ row. not_at row_kinds c.args.slots.now c.args.items.now Truth _ c.loop-place.place (cells row) (omega (arith, c.loop-place-test.true, c.requires)) c.loop-place-test.true c.index-slots-place.is (was_not_set _ _ c.loop-place.row c.fill.new.row _ c.in_ok-fits.ensures c.if-not-fits.true row);
-}
+      place = c.loop-place.place;
+      has_id = c.id_at.ensures ∙ ap Some (sym (to_z-of_z w32 c.id_at.result fits));
+      fits_before = (c.loop-place.row, c.loop-place.invariant);
+      fits_not = λ row. not_at row_kinds c.args.slots.now c.args.items.now Truth _ c.loop-place.place (cells row) (omega (arith, c.loop-place-test.true, c.requires)) c.loop-place-test.true c.index-slots-place.is (was_not_set _ _ c.loop-place.row c.fill.new.row _ c.in_ok-fits.ensures c.if-not-fits.true row);
+    }
 
 pub loop-place-preserved : goal.loop-place-preserved
 loop-place-preserved c = step row_kinds c.args.slots.now c.args.items.now Truth _ c.loop-place.place (c.loop-place.place + 1) (cells c.loop-place.row) (cells c.fill.new.row) (add-one _) (sym c.requires) c.loop-place-test.true c.index-slots-place.is (omega (arith, c.loop-place-test.true, c.requires, width c.loop-place.row)) c.loop-place.invariant (was_set _ _ c.loop-place.row c.fill.new.row _ c.in_ok-fits.ensures c.if-not-fits.false)
