@@ -18,3 +18,9 @@ pub record NotesParent (old new : BTreeSet (String Global)) (path : List ℕ) : 
   pub dir : List ℕ
   pub is : IsParent path dir
   pub noted : Notes old new dir
+
+-- the directory that holds this path is noted
+pub record IsParentNoted (noted : BTreeSet (String Global)) (path : List ℕ) : Type 0 where
+  pub dir : List ℕ
+  pub is : IsParent path dir
+  pub here : IsTrue (contains_text noted dir)

@@ -1,5 +1,5 @@
 -- How calls of the file system end, and what a store answers of them.
-use Rattle.std.specs.Prelude.{◌≡◌, Bool, true, false, Result, Ok, Err, IsErr, IsTrue}
+use Rattle.std.specs.Prelude.{Bool, true, false, Result, Ok, Err, IsErr, IsTrue}
 use Rattle.store_directory.specs.declared.calls.SystemErr.{SystemErr}
 use Rattle.store_directory.specs.declared.calls.SystemErr.TheVariants.{Memory as Lacking, Refused, Unsynced}
 use Rattle.ice_store.specs.declared.store.StoreErr.{StoreErr}

@@ -1,6 +1,7 @@
 //! Calls that create, rename and remove regular files. Each looks first at what stands at its paths, and none replaces,
 //! opens for writing or removes anything but a regular file.
-ghost use Rattle.store_directory.specs.Noted.{KeepsNoted};
+ghost use Rattle.std.specs.Prelude.{OnOk};
+ghost use Rattle.store_directory.specs.Noted.{KeepsNoted, IsParentNoted};
 
 use crate::calls::{
     SystemErr, check_same, is_absent, is_file, look_for_file, metadata_of, parent_of,
@@ -89,7 +90,9 @@ pub fn rename_file(
     to: &str,
     changed: &mut Directories,
 ) -> Result<Moved, SystemErr>
-    ensures { KeepsNoted changed.old changed.new }
+    ensures kept { KeepsNoted changed.old changed.new }
+    ensures from { OnOk result (IsParentNoted changed.new from.now) }
+    ensures to { OnOk result (IsParentNoted changed.new to.now) }
 {
     note_parent(rt, from, changed)?;
     note_parent(rt, to, changed)?;

@@ -1,9 +1,10 @@
 //! A store over the real directory.
-ghost use Rattle.std.specs.Prelude.{◌≡◌, ◌||◌, None, true, false, IsTrue, IsErr, OnOk, OnErr};
-ghost use Rattle.std.specs.BTreeSet.{IsEmpty, IsUnchanged};
+ghost use Rattle.std.specs.Prelude.{◌≡◌, ◌||◌, None, false, IsTrue, IfOk, OnOk, OnErr, string_bytes};
+ghost use Rattle.std.specs.BTreeSet.{IsEmpty};
 ghost use Rattle.ice_store.specs.Calls.{HasCause};
 ghost use Rattle.store_directory.specs.SystemCalls.{answer_of, is_unsynced, FailsOnceLost};
-ghost use Rattle.store_directory.specs.Noted.{KeepsNoted};
+ghost use Rattle.store_directory.specs.Noted.{KeepsNoted, IsParentNoted};
+ghost use Rattle.ice_store.specs.Places.{text_of};
 
 use crate::calls::{SystemErr, look, parent_of, path_of, read_part, size_of};
 use crate::changes::{create_file, remove_file, rename_file};
@@ -81,7 +82,9 @@ impl<M> DirStore<M> {
     }
 
     // The path of a place, where no directory of it is a symbolic link.
-    fn path_to(&self, place: &Place) -> Result<String, SystemErr> {
+    fn path_to(&self, place: &Place) -> Result<String, SystemErr>
+        ensures { IfOk result (λ path. string_bytes path ≡ text_of place.now) }
+    {
         let path = path_of(place)?;
         self.check_links_to(path.as_str())?;
         Ok(path)
@@ -165,6 +168,8 @@ impl<M> DirStore<M> {
         ensures lost { self.new.is_sync_lost ≡ self.old.is_sync_lost }
         ensures settled { OnOk result (self.new.is_listed ≡ false) }
         ensures kept { self.new.is_listed ≡ self.old.is_listed → KeepsNoted self.old.changed self.new.changed }
+        ensures from { OnOk result (IsParentNoted self.new.changed (text_of from.now)) }
+        ensures to { OnOk result (IsParentNoted self.new.changed (text_of to.now)) }
     {
         let from = self.path_to(from)?;
         let to = path_of(to)?;

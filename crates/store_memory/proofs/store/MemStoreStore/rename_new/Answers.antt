@@ -1,5 +1,4 @@
-use Rattle.std.proofs.Common.{◌≡◌, true, not, rules, subst}
-use Rattle.ice_store.specs.Places.{Parts}
+use Rattle.std.proofs.Common.{true, not, rules}
 use Rattle.ice_store.specs.Files.{is_named}
 use Rattle.ice_store.specs.declared.history.Step.{Step}
 use Rattle.ice_store.specs.declared.history.Step.TheVariants.{Rename}
