@@ -17,7 +17,7 @@ either false c is = is
 pub added : (old new : BTreeSet (String Global)) (key : String Global) (dir : List ℕ) → Updates string_cmp old new key true → string_bytes key ≡ dir → Notes old new dir
 added old new key dir updates is =
     let at : UpdatesBy string_cmp (λ k. slice_cmp nat_cmp dir (string_bytes k)) old new true =
-        subst (λ (bs : List ℕ). UpdatesBy string_cmp (λ k. slice_cmp nat_cmp bs (string_bytes k)) old new true) is updates in
+    subst (λ (bs : List ℕ). UpdatesBy string_cmp (λ k. slice_cmp nat_cmp bs (string_bytes k)) old new true) is updates in
     let each : (cs : List ℕ) → contains_text new cs ≡ cond (bytes_eq dir cs) true (contains_text old cs) = btree_set_updates_text dir old new true at in
     record {
       here = each dir ∙ ap (λ (b : Bool). cond b true (contains_text old dir)) ((bytes_eq-Decides dir dir).1 refl);

@@ -1,10 +1,9 @@
 use ice_store::{Alone, Clock, Gone, Ids, Made, Moved, Place, Sink, Store, StoreErr, Text};
 use std::alloc::Global;
-use std::io;
 use std::io::{ErrorKind, Write};
 use std::process::Abort;
 use std::test::Fail;
-use std::{env, fs};
+use std::{env, fs, io};
 use store_directory::{DirStore, MachineClock, RandomIds, StreamSink};
 
 type RealStore = DirStore<Alone>;
