@@ -59,7 +59,7 @@ fn fill(
         4 => Ok(set_int(found, &mut row.added_files_count)),
         5 => Ok(set_int(found, &mut row.existing_files_count)),
         6 => Ok(set_int(found, &mut row.deleted_files_count)),
-        7 => set_summaries(alloc, found, slot.within.as_slice(), &mut row.partitions),
+        7 => set_summaries(alloc, found, &slot.within, &mut row.partitions),
         8 => Ok(set_long(found, &mut row.added_rows_count)),
         9 => Ok(set_long(found, &mut row.existing_rows_count)),
         10 => Ok(set_long(found, &mut row.deleted_rows_count)),

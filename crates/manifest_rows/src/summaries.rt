@@ -13,6 +13,7 @@ use manifest_cells::{
     bool_of, fields_in, held, items_in, null, optional_bool, optional_bool_of, optional_bytes,
     optional_bytes_of, some,
 };
+use manifest_columns::PlaceList;
 use sqlite_items::Items;
 use std::alloc::{AllocError, Global};
 
@@ -44,10 +45,7 @@ fn summary(
     }))
 }
 
-fn summary_of(
-    item: &Datum,
-    places: &[Option<usize>],
-) -> Result<Option<FieldSummary>, AllocError>
+fn summary_of(item: &Datum, places: &[Option<usize>]) -> Result<Option<FieldSummary>, AllocError>
     ensures { IfOk result (λ r. Reads summary_cells (record_cells places.now item.now) r) }
 {
     let fields = fields_in(item);
@@ -79,12 +77,22 @@ fn summaries_of(
     Ok(Some(summaries))
 }
 
+fn summaries_in(
+    alloc: Global,
+    items: &[Datum],
+    places: &PlaceList,
+) -> Result<Option<FieldSummaryList>, AllocError>
+    ensures { IfOk result (λ r. Reads (map summary_cells) (map (record_cells places.now) items.now) r) }
+{
+    summaries_of(alloc, items, places.as_slice())
+}
+
 /// The summaries that a list stands for, which may lack; `places` are those of 509, 510, 511 and 518 in its records.
 #[tactic(auto, using(manifest_cells::proofs::Whole::no_records, manifest_cells::proofs::Whole::no_single))]
 pub(crate) fn set_summaries(
     alloc: Global,
     found: Option<&Datum>,
-    places: &[Option<usize>],
+    places: &PlaceList,
     to: &mut Option<FieldSummaryList>,
 ) -> Result<bool, AllocError>
     ensures { IfOk result (λ fits. Sets (listed_as summary_cells) (records_in places.now (option_copied found.entry)) fits to.new) }
@@ -96,7 +104,7 @@ pub(crate) fn set_summaries(
     let Some(items) = items_in(list) else {
         return Ok(false);
     };
-    let Some(summaries) = summaries_of(alloc, items, places)? else {
+    let Some(summaries) = summaries_in(alloc, items, places)? else {
         return Ok(false);
     };
     *to = Some(summaries);

@@ -10,7 +10,8 @@ use std::test::Fail;
 
 /// A row of deletes under the written schema: /m, 300 bytes, spec 0, sequence 7 and 3, snapshot 70, files 1, 2, 0, rows
 /// 10, 20, 0, one summary with a null, of which NaN isn't told, from a to z, and no key metadata.
-const WRITTEN: &[u8] = b"\x04/m\xd8\x04\x00\x02\x0e\x06\x8c\x01\x02\x04\x00\x14\x28\x00\x02\x02\x01\x00\x02\x02a\x02\x02z\x00\x00";
+const WRITTEN: &[u8] =
+    b"\x04/m\xd8\x04\x00\x02\x0e\x06\x8c\x01\x02\x04\x00\x14\x28\x00\x02\x02\x01\x00\x02\x02a\x02\x02z\x00\x00";
 
 /// The same row as another writer may lay it out: other names, fields and unions in another order, a field of another id,
 /// `contains_nan` lacking.
@@ -25,11 +26,14 @@ const OTHER_SCHEMA: &str = r#"{"type":"record","name":"x","fields":[
 {"name":"h","field-id":506,"type":"int"},{"name":"i","field-id":512,"type":"long"},{"name":"j","field-id":513,"type":"long"},
 {"name":"k","field-id":514,"type":"long"}]}"#;
 
-const OTHER: &[u8] = b"\x00\x02\x00\x02z\x02\x02a\x01\x01\x00\x06zzz\x00\x04/m\x02\x00\xd8\x04\x0e\x06\x8c\x01\x02\x04\x00\x14\x28\x00";
+const OTHER: &[u8] =
+    b"\x00\x02\x00\x02z\x02\x02a\x01\x01\x00\x06zzz\x00\x04/m\x02\x00\xd8\x04\x0e\x06\x8c\x01\x02\x04\x00\x14\x28\x00";
 
 /// A content of 2; a length of -1; both.
 const BAD_CONTENT: &[u8] = b"\x00\x00\x00\x04\x00\x00\x00\x00\x00\x00\x00\x00\x00\x00\x00";
+
 const BAD_LENGTH: &[u8] = b"\x00\x01\x00\x00\x00\x00\x00\x00\x00\x00\x00\x00\x00\x00\x00";
+
 const BAD_BOTH: &[u8] = b"\x00\x01\x00\x04\x00\x00\x00\x00\x00\x00\x00\x00\x00\x00\x00";
 
 fn other_schema(alloc: Global) -> Result<Schema, Fail> {
