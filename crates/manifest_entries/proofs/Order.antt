@@ -26,9 +26,24 @@ no_entry slots ds (Err (errors.BadField id)) h = λ entry e. h.fits_not entry (a
 -- some data file
 some_file : DataFile
 some_file = record {
-  content = Rows; path = []; format = []; partition = Null; record_count = 0; file_size_in_bytes = 0;
-  column_sizes = None; value_counts = None; null_value_counts = None; nan_value_counts = None; lower_bounds = None; upper_bounds = None;
-  key_metadata = None; split_offsets = None; equality_ids = None; sort_order_id = None; referenced_data_file = None }
+  content = Rows;
+  path = [];
+  format = [];
+  partition = Null;
+  record_count = 0;
+  file_size_in_bytes = 0;
+  column_sizes = None;
+  value_counts = None;
+  null_value_counts = None;
+  nan_value_counts = None;
+  lower_bounds = None;
+  upper_bounds = None;
+  key_metadata = None;
+  split_offsets = None;
+  equality_ids = None;
+  sort_order_id = None;
+  referenced_data_file = None;
+}
 
 -- an entry of these numbers
 entry_with : EntryStatus → Option ℤ → Option ℤ → Option ℤ → DataFile → Entry
@@ -64,7 +79,8 @@ no_data_file slots ds status snapshot number file_number id a b c d bad = record
   place = suc (suc (suc (suc bad.place)));
   has_id = bad.has_id;
   fits_before = (entry_with status snapshot number file_number bad.fits_before.0, conses (ap single a) (conses (ap single b) (conses (ap single c) (conses (ap single d) bad.fits_before.1))));
-  fits_not = λ entry e. bad.fits_not entry.data_file e }
+  fits_not = λ entry e. bad.fits_not entry.data_file e;
+}
 
 -- All fields fit.
 pub all_fit : (slots : EntrySlots) (ds : List Datum) (entry : Entry) → Some (Int (status_number entry.status)) ≡ held ds slots.status → option_map Long entry.snapshot_id ≡ held ds slots.snapshot_id → option_map Long entry.sequence_number ≡ held ds slots.sequence_number → option_map Long entry.file_sequence_number ≡ held ds slots.file_sequence_number → IsFile slots.file slots.parts (found_fields (held ds slots.data_file)) entry.data_file → entry_cells entry ≡ held_entry_cells slots ds

@@ -33,7 +33,8 @@ entry_slots fields file_fields parts = record {
   file_sequence_number = place_of (pos 4) fields;
   data_file = place_of (pos 2) fields;
   file = map (slot_of file_fields) data_file_columns;
-  parts = parts }
+  parts = parts;
+}
 
 -- The fields of an entry and of its data file in the order of their ids. Where it begins in its file is none of them.
 abbrev pub entry_cells : Entry → List Cell

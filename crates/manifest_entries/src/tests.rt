@@ -15,7 +15,8 @@ use std::test::Fail;
 /// Rows at /a in avro, 3 records, 100 bytes, and nothing more; the same with -1 records.
 const FILE: &[u8] = b"\x00\x04/a\x08avro\x06\xc8\x01\x00\x00\x00\x00\x00\x00\x00\x00\x00\x00\x00";
 
-const BAD_FILE: &[u8] = b"\x00\x04/a\x08avro\x01\xc8\x01\x00\x00\x00\x00\x00\x00\x00\x00\x00\x00\x00";
+const BAD_FILE: &[u8] =
+    b"\x00\x04/a\x08avro\x01\xc8\x01\x00\x00\x00\x00\x00\x00\x00\x00\x00\x00\x00";
 
 fn file(alloc: Global, bytes: &[u8]) -> Result<Datum, FieldErr> {
     let schema: Schema = written_record(alloc, RecordName::DataFile, &written_data_file_columns())?;
@@ -26,7 +27,12 @@ fn file(alloc: Global, bytes: &[u8]) -> Result<Datum, FieldErr> {
 }
 
 /// The record of a written entry with these numbers.
-fn record(alloc: Global, status: i32, number: Option<i64>, bytes: &[u8]) -> Result<Datum, FieldErr> {
+fn record(
+    alloc: Global,
+    status: i32,
+    number: Option<i64>,
+    bytes: &[u8],
+) -> Result<Datum, FieldErr> {
     let mut items = Items::new(alloc);
     items.push(Datum::Int(status))?;
     items.push(optional_long(alloc, number)?)?;

@@ -24,10 +24,22 @@ const BARE: &[u8] = b"\x00\x04/a\x08avro\x06\xc8\x01\x00\x00\x00\x00\x00\x00\x00
 
 /// A content of 3, -1 records, -1 bytes, and all of these.
 const BAD: [(&[u8], i32); 4] = [
-    (b"\x06\x00\x00\x00\x00\x00\x00\x00\x00\x00\x00\x00\x00\x00\x00\x00", 134),
-    (b"\x00\x00\x00\x01\x00\x00\x00\x00\x00\x00\x00\x00\x00\x00\x00\x00", 103),
-    (b"\x00\x00\x00\x00\x01\x00\x00\x00\x00\x00\x00\x00\x00\x00\x00\x00", 104),
-    (b"\x06\x00\x00\x01\x01\x00\x00\x00\x00\x00\x00\x00\x00\x00\x00\x00", 103),
+    (
+        b"\x06\x00\x00\x00\x00\x00\x00\x00\x00\x00\x00\x00\x00\x00\x00\x00",
+        134,
+    ),
+    (
+        b"\x00\x00\x00\x01\x00\x00\x00\x00\x00\x00\x00\x00\x00\x00\x00\x00",
+        103,
+    ),
+    (
+        b"\x00\x00\x00\x00\x01\x00\x00\x00\x00\x00\x00\x00\x00\x00\x00\x00",
+        104,
+    ),
+    (
+        b"\x06\x00\x00\x01\x01\x00\x00\x00\x00\x00\x00\x00\x00\x00\x00\x00",
+        103,
+    ),
 ];
 
 fn schema(alloc: Global) -> Result<Schema, AllocError> {
@@ -56,7 +68,10 @@ fn is_written_again(rt: &impl Abort, alloc: Global, bytes: &[u8]) -> Result<(), 
     assert!(rt; file.record_count == 3 && file.file_size_in_bytes == 100);
     let written = Datum::Fields(file_fields(alloc, &file)?);
     let (spelled, _) = decode(alloc, &schema(alloc)?, bytes, 0)?;
-    assert_eq!(rt; format!(in alloc; "{written:?}")?.as_str(), format!(in alloc; "{spelled:?}")?.as_str());
+    assert_eq!(rt;
+        format!(in alloc; "{written:?}")?.as_str(),
+        format!(in alloc; "{spelled:?}")?.as_str()
+    );
     Ok(())
 }
 
@@ -117,6 +132,9 @@ fn partitions(rt: HostRuntime) -> Result<(), Fail> {
     wanted.push(Datum::Null)?;
     wanted.push(Datum::Null)?;
     let wanted = Datum::Fields(wanted);
-    assert_eq!(rt; text.as_str(), format!(in rt.alloc(); "{wanted:?}")?.as_str());
+    assert_eq!(rt;
+        text.as_str(),
+        format!(in rt.alloc(); "{wanted:?}")?.as_str()
+    );
     Ok(())
 }

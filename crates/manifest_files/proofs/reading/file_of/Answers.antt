@@ -10,11 +10,14 @@ use Rattle.manifest_files.proofs.reading.file_of.Goals as goal
 pub returns-then-not-fits : goal.returns-then-not-fits
 returns-then-not-fits c =
     let fits : FitsSigned w32 c.id_at.result = search rules in
-    record { exact = record {
-  place = c.loop-place.place;
-  has_id = c.id_at.ensures ∙ ap Some (sym (to_z-of_z w32 c.id_at.result fits));
-  fits_before = (c.loop-place.file, c.loop-place.invariant);
-  fits_not = λ file. not_at c.args.parts.now c.args.items.now file_kinds c.args.slots.now Truth _ c.loop-place.place (file_cells file) (omega (arith, c.loop-place-test.true, c.requires)) c.loop-place-test.true c.index-slots-place.is (was_not_set _ _ c.loop-place.file c.fill.new.file _ c.in_ok-fits.ensures c.if-not-fits.true file) } }
+    record {
+      exact = record {
+        place = c.loop-place.place;
+        has_id = c.id_at.ensures ∙ ap Some (sym (to_z-of_z w32 c.id_at.result fits));
+        fits_before = (c.loop-place.file, c.loop-place.invariant);
+        fits_not = λ file. not_at c.args.parts.now c.args.items.now file_kinds c.args.slots.now Truth _ c.loop-place.place (file_cells file) (omega (arith, c.loop-place-test.true, c.requires)) c.loop-place-test.true c.index-slots-place.is (was_not_set _ _ c.loop-place.file c.fill.new.file _ c.in_ok-fits.ensures c.if-not-fits.true file);
+      };
+    }
 
 pub loop-place-preserved : goal.loop-place-preserved
 loop-place-preserved c = step c.args.parts.now c.args.items.now file_kinds c.args.slots.now Truth _ c.loop-place.place (c.loop-place.place + 1) (file_cells c.loop-place.file) (file_cells c.fill.new.file) (add-one _) (sym c.requires) c.loop-place-test.true c.index-slots-place.is (omega (arith, c.loop-place-test.true, c.requires, width c.loop-place.file)) c.loop-place.invariant (was_set _ _ c.loop-place.file c.fill.new.file _ c.in_ok-fits.ensures c.if-not-fits.false)
