@@ -1,4 +1,3 @@
-use Rattle.std.proofs.Common.{rules, ◌≡◌}
 use Rattle.std.proofs.lemmas.Result.{err_from_is_err_and}
 use Rattle.manifest_entries.proofs.Order.{no_snapshot, no_file_number, file_refused}
 use Rattle.manifest_entries.proofs.reading.entry_in.Goals as goal
