@@ -1,13 +1,11 @@
 -- Written entries are read as themselves.
-use Rattle.std.proofs.Common.{◌≡◌, List, [], ◌∷◌, Option, Some, None, ap, refl, sym, ◌∙◌}
-use Rattle.std.specs.Option.{option_map}
-use Rattle.avro_datum.specs.declared.datum.Datum.{Datum, out-Datum}
+use Rattle.std.proofs.Common.{◌≡◌, List, [], ◌∷◌, Some, ap, sym, ◌∙◌}
+use Rattle.avro_datum.specs.declared.datum.Datum.{Datum}
 use Rattle.avro_datum.specs.declared.datum.Datum.TheOpen.{Datum-F}
-use Rattle.avro_datum.specs.declared.datum.Datum.TheVariants.{Int, Long, Fields, outs-Fields}
+use Rattle.avro_datum.specs.declared.datum.Datum.TheVariants.{Long, Fields, outs-Fields}
 use Rattle.manifest_cells.specs.Cells.{Cell, plain, inside, fields_in, held}
 use Rattle.manifest_cells.proofs.Back.{conses, needed, maybe, plain_int, plain_long}
-use Rattle.manifest_files.specs.declared.partition.PartSlot.{PartSlot}
-use Rattle.manifest_files.specs.Files.{file_cells, held_file_cells, IsFile}
+use Rattle.manifest_files.specs.Files.{held_file_cells, IsFile}
 use Rattle.manifest_files.specs.Partitions.{written_parts}
 use Rattle.manifest_files.specs.Written.{file_fields, written_file_slots}
 use Rattle.manifest_files.proofs.Back.{read_back as file_read_back}

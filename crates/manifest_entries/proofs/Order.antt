@@ -1,6 +1,5 @@
 -- The fields of an entry in order.
-use Rattle.std.proofs.Common.{◌≡◌, ℕ, ℤ, suc, pos, List, [], ◌∷◌, take, Result, Ok, Err, Option, Some, None, ap, refl, sym, ◌∙◌}
-use native.Mathlib.Numerals.{unary_clauses}
+use Rattle.std.proofs.Common.{◌≡◌, ℤ, suc, pos, List, [], Result, Ok, Err, Option, Some, None, ap, refl}
 use Rattle.std.specs.Option.{option_map}
 use Rattle.std.specs.List.{slice_get}
 use Rattle.avro_datum.specs.declared.datum.Datum.{Datum}
@@ -11,7 +10,7 @@ use Rattle.manifest_files.specs.declared.file.Content.TheVariants.{Rows}
 use Rattle.manifest_files.specs.declared.file.DataFile.{DataFile}
 use Rattle.manifest_files.specs.declared.file.FieldErr.{FieldErr}
 use Rattle.manifest_files.specs.declared.file.FieldErr.TheVariants as errors
-use Rattle.manifest_files.specs.Files.{file_cells, held_file_cells, IsFile, IsBadFileAt, ReadsFile, OnBad}
+use Rattle.manifest_files.specs.Files.{IsFile, IsBadFileAt, ReadsFile, OnBad}
 use Rattle.manifest_entries.specs.declared.entry.Entry.{Entry}
 use Rattle.manifest_entries.specs.declared.entry.EntrySlots.{EntrySlots}
 use Rattle.manifest_entries.specs.declared.entry.EntryStatus.{EntryStatus}

@@ -1,5 +1,5 @@
 -- The record that is written for an entry.
-use Rattle.std.specs.Prelude.{◌≡◌, List, [], ◌∷◌, map}
+use Rattle.std.specs.Prelude.{List, [], ◌∷◌, map}
 use Rattle.std.specs.Option.{option_map}
 use Rattle.avro_datum.specs.declared.datum.Datum.{Datum}
 use Rattle.avro_datum.specs.declared.datum.Datum.TheVariants.{Int, Long, Fields}

@@ -1,13 +1,13 @@
 -- Written data files are read as themselves.
-use Rattle.std.proofs.Common.{◌≡◌, ℕ, ℤ, pos, List, [], ◌∷◌, map, Option, Some, None, Bool, true, false, refl, sym, ap, ◌∙◌}
-use Rattle.std.specs.Option.{option_map, option_and_then}
+use Rattle.std.proofs.Common.{◌≡◌, ℕ, ℤ, pos, List, [], ◌∷◌, map, Option, Some, None, true, refl, sym, ap, ◌∙◌}
+use Rattle.std.specs.Option.{option_and_then}
 use Rattle.std.specs.List.{slice_get}
 use Rattle.avro_schema.specs.declared.schema.Field.{Field}
 use Rattle.avro_schema.specs.declared.schema.Logical.TheVariants.{Plain}
 use Rattle.avro_schema.specs.declared.schema.Schema.TheVariants as types
-use Rattle.avro_datum.specs.declared.datum.Datum.{Datum, out-Datum}
+use Rattle.avro_datum.specs.declared.datum.Datum.{Datum}
 use Rattle.avro_datum.specs.declared.datum.Datum.TheOpen.{Datum-F}
-use Rattle.avro_datum.specs.declared.datum.Datum.TheVariants.{Int, Long, Blob, Str, Fields, outs-Fields}
+use Rattle.avro_datum.specs.declared.datum.Datum.TheVariants.{Int, Long, Blob, Str, outs-Fields}
 use Rattle.manifest_columns.specs.declared.column.Kind.{Kind}
 use Rattle.manifest_columns.specs.declared.column.Kind.TheVariants as kinds
 use Rattle.manifest_columns.specs.declared.name.RecordName.{RecordName}
@@ -19,13 +19,13 @@ use Rattle.manifest_columns.specs.Shapes.{type_of}
 use Rattle.manifest_columns.specs.Slots.{places_of, inner_fields}
 use Rattle.manifest_columns.specs.Written.{field, nullable, pair_type, plain_type}
 use Rattle.manifest_columns.proofs.Lists.{fields_in_list}
-use Rattle.manifest_cells.specs.Cells.{Cell, single, records as listed, fields_in, held, plain, record_cells, int_long_cells, int_bytes_cells, long_array, int_array}
+use Rattle.manifest_cells.specs.Cells.{Cell, single, records as listed, fields_in, held, record_cells, int_long_cells, int_bytes_cells, long_array, int_array}
 use Rattle.manifest_cells.specs.Written.{int_long_record, int_bytes_record}
 use Rattle.manifest_cells.proofs.Back.{IsPlain, plain_int, plain_long, plain_blob, plain_text, plain_array, held_needed, needed, maybe, maybe_list, conses}
 use Rattle.manifest_files.specs.declared.file.DataFile.{DataFile}
 use Rattle.manifest_files.specs.declared.partition.PartSlot.{PartSlot}
-use Rattle.manifest_files.specs.Files.{file_cells, file_kinds, file_cells_of, held_file_cells, IsFile}
-use Rattle.manifest_files.specs.Partitions.{partition_in, written_partition, written_parts}
+use Rattle.manifest_files.specs.Files.{file_cells, file_kinds, file_cells_of, IsFile}
+use Rattle.manifest_files.specs.Partitions.{partition_in, written_parts}
 use Rattle.manifest_files.specs.Written.{file_fields, written_file_slots, FilesAreReadBack}
 use Rattle.manifest_files.proofs.PartBack.{partition_back}
 

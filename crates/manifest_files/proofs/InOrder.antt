@@ -1,6 +1,5 @@
 -- Cells of a data file in the order of the columns.
-use Rattle.std.proofs.Common.{◌≡◌, ℕ, zero, suc, ◌<◌, ◌≤◌, List, [], ◌∷◌, ◌++◌, length, take, get_or, set, ap, refl, sym, ◌∙◌, arith, Option, Some, None, take-suc, take-suc-set}
-use native.Mathlib.Numerals.{unary_clauses}
+use Rattle.std.proofs.Common.{◌≡◌, ℕ, zero, suc, ◌<◌, List, [], ◌∷◌, ◌++◌, length, take, get_or, set, ap, refl, sym, ◌∙◌, arith, Some, take-suc, take-suc-set}
 use Rattle.std.specs.List.{slice_get}
 use Rattle.avro_datum.specs.declared.datum.Datum.{Datum}
 use Rattle.manifest_columns.specs.declared.column.Kind.{Kind}

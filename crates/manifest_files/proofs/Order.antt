@@ -1,6 +1,5 @@
 -- The fields of a data file in order.
-use Rattle.std.proofs.Common.{◌≡◌, ℕ, zero, suc, ℤ, ◌<◌, ◌≤◌, List, [], ◌∷◌, ◌++◌, length, take, set, Bool, true, false, Result, Ok, Err, IfOk, Option, Some, get_or, ap, refl, sym, ◌∙◌, arith}
-use native.Mathlib.Numerals.{unary_clauses}
+use Rattle.std.proofs.Common.{◌≡◌, ℕ, zero, suc, ℤ, ◌≤◌, List, [], ◌∷◌, ◌++◌, length, take, set, Bool, true, false, Result, Ok, Err, IfOk, Option, Some, get_or, ap, refl, sym, ◌∙◌, arith}
 use Rattle.std.specs.List.{slice_get}
 use Rattle.avro_datum.specs.declared.datum.Datum.{Datum}
 use Rattle.manifest_columns.specs.declared.slots.Slot.{Slot}

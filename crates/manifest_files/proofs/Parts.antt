@@ -1,7 +1,5 @@
 -- Values of partitions.
 use Rattle.std.proofs.Common.{◌≡◌, ℕ, zero, suc, List, [], ◌∷◌, map, Option, Some, None, refl, sym, ap, ◌∙◌}
-use native.Mathlib.Numerals.{unary_clauses}
-use Rattle.std.specs.Option.{option_map}
 use Rattle.std.specs.List.{slice_get}
 use Rattle.manifest_files.specs.Partitions.{all_there, consed}
 

@@ -1,5 +1,5 @@
 -- Which data file a record of a manifest stands for (Apache Iceberg specification, "Manifests").
-use Rattle.std.specs.Prelude.{◌≡◌, ℕ, ℤ, pos, List, [], ◌∷◌, map, take, set, Result, Ok, Err, Option, Some, None, Bool, true, false}
+use Rattle.std.specs.Prelude.{◌≡◌, ℕ, ℤ, pos, List, [], ◌∷◌, map, take, set, Result, Ok, Err, Some, Bool, true, false}
 use Rattle.std.specs.Option.{option_map}
 use Rattle.std.specs.List.{slice_get}
 use Rattle.avro_datum.specs.declared.datum.Datum.{Datum}

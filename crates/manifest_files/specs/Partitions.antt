@@ -1,9 +1,9 @@
 -- Which partition a record of a manifest holds (Apache Iceberg specification, "Partitioning").
-use Rattle.std.specs.Prelude.{ℕ, suc, List, [], ◌∷◌, map, Option, Some, None, Bool, true, false, if◌then◌else◌}
+use Rattle.std.specs.Prelude.{ℕ, suc, List, [], ◌∷◌, map, Option, Some, None, Bool, false, if◌then◌else◌}
 use Rattle.std.specs.Option.{option_map}
 use Rattle.avro_datum.specs.declared.datum.Datum.{Datum, out-Datum}
 use Rattle.avro_datum.specs.declared.datum.Datum.TheOpen.{Datum-F}
-use Rattle.avro_datum.specs.declared.datum.Datum.TheVariants.{Null, Int, Long, Fields, Branch}
+use Rattle.avro_datum.specs.declared.datum.Datum.TheVariants.{Null, Int, Long, Fields}
 use Rattle.manifest_cells.specs.Cells.{held, not_null, fields_in}
 use Rattle.manifest_cells.specs.Written.{optional}
 use Rattle.manifest_files.specs.declared.partition.PartSlot.{PartSlot}

@@ -1,5 +1,5 @@
 -- The record that is written for a data file.
-use Rattle.std.specs.Prelude.{◌≡◌, ℕ, pos, List, [], ◌∷◌, map}
+use Rattle.std.specs.Prelude.{pos, List, [], ◌∷◌, map}
 use Rattle.std.specs.Option.{option_map}
 use Rattle.avro_datum.specs.declared.datum.Datum.{Datum}
 use Rattle.avro_datum.specs.declared.datum.Datum.TheVariants.{Int, Long, Blob, Str}

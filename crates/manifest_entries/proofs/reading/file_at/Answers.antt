@@ -1,4 +1,3 @@
-use Rattle.std.proofs.Common.{rules, ◌≡◌}
 use Rattle.manifest_entries.proofs.reading.file_at.Goals as goal
 
 pub returns : goal.returns

@@ -1,4 +1,3 @@
-use Rattle.std.proofs.Common.{rules, ◌≡◌}
 use Rattle.manifest_entries.proofs.reading.status_at.Goals as goal
 
 pub returns : goal.returns

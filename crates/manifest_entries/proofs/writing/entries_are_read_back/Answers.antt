@@ -1,4 +1,3 @@
-use Rattle.std.proofs.Common.{rules, ◌≡◌}
 use Rattle.manifest_entries.proofs.Back.{read_back}
 use Rattle.manifest_entries.proofs.writing.entries_are_read_back.Goals as goal
 

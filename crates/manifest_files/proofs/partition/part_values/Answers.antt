@@ -1,4 +1,4 @@
-use Rattle.std.proofs.Common.{rules, ◌≡◌, ◌<◌, ◌≤◌, ◌∙◌, map, take_all, ap, arith}
+use Rattle.std.proofs.Common.{◌∙◌, map, take_all, ap, arith}
 use Rattle.std.proofs.lemmas.Option.{slice_get-get_or}
 use Rattle.manifest_files.specs.Partitions.{part_in}
 use Rattle.manifest_files.proofs.Parts.{all_are_there, one_lacks}

@@ -1,4 +1,4 @@
-use Rattle.std.proofs.Common.{rules, ◌≡◌, ◌<◌, ◌+◌, length, arith, sym, ap, Some, ◌∙◌, FitsSigned, w32}
+use Rattle.std.proofs.Common.{rules, ◌+◌, arith, sym, ap, Some, ◌∙◌, FitsSigned, w32}
 use Rattle.std.proofs.lemmas.Int.{to_z-of_z}
 use Rattle.std.proofs.Math.Numerals.{add-one}
 use Rattle.manifest_columns.specs.declared.column.Kind.TheVariants.{Bool as Truth}

@@ -1,4 +1,3 @@
-use Rattle.std.proofs.Common.{rules, ◌≡◌}
 use Rattle.manifest_files.proofs.Order.{fills_column_sizes, fills_value_counts, fills_null_value_counts, fills_lower_bounds, fills_upper_bounds, fills_nan_value_counts}
 use Rattle.manifest_files.proofs.reading.fill.Goals as goal
 

@@ -1,4 +1,3 @@
-use Rattle.std.proofs.Common.{rules, ◌≡◌}
 use Rattle.manifest_files.proofs.reading.set_int_bytes_at.Goals as goal
 
 pub returns : goal.returns

@@ -1,4 +1,4 @@
-use Rattle.std.proofs.Common.{rules, ◌≡◌, ◌≤◌, ◌∙◌, arith, take_all}
+use Rattle.std.proofs.Common.{◌∙◌, arith, take_all}
 use Rattle.std.proofs.Math.Numerals.{add-one}
 use Rattle.manifest_files.specs.Written.{file_fields}
 use Rattle.manifest_files.proofs.Order.{field_count, one_more}

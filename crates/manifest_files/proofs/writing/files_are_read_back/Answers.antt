@@ -1,4 +1,3 @@
-use Rattle.std.proofs.Common.{rules, ◌≡◌}
 use Rattle.manifest_files.proofs.Back.{read_back}
 use Rattle.manifest_files.proofs.writing.files_are_read_back.Goals as goal
 
