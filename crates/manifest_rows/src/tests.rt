@@ -54,7 +54,8 @@ fn row(alloc: Global, schema: &Schema, bytes: &[u8]) -> Result<ManifestRow, RowE
 }
 
 /// The record that is written for a row, as a text.
-fn written(alloc: Global, row: &ManifestRow) -> Result<String, Fail> {
+fn written(rt: &impl Abort, alloc: Global, row: &ManifestRow) -> Result<String, Fail> {
+    assert!(rt; row.manifest_length < 1 << 63);
     let record = Datum::Fields(row_fields(alloc, row)?);
     Ok(format!(in alloc; "{record:?}")?)
 }
@@ -82,7 +83,7 @@ fn rows_both_ways(rt: HostRuntime) -> Result<(), Fail> {
     let wanted = spelled(rt.alloc())?;
     let own = row(rt.alloc(), &row_schema(rt.alloc())?, WRITTEN)?;
     same_row(&rt, &own);
-    assert_eq!(rt; written(rt.alloc(), &own)?.as_str(), wanted.as_str());
+    assert_eq!(rt; written(&rt, rt.alloc(), &own)?.as_str(), wanted.as_str());
     Ok(())
 }
 
@@ -91,7 +92,7 @@ fn a_row_of_another_writer(rt: HostRuntime) -> Result<(), Fail> {
     let wanted = spelled(rt.alloc())?;
     let other = row(rt.alloc(), &other_schema(rt.alloc())?, OTHER)?;
     same_row(&rt, &other);
-    assert_eq!(rt; written(rt.alloc(), &other)?.as_str(), wanted.as_str());
+    assert_eq!(rt; written(&rt, rt.alloc(), &other)?.as_str(), wanted.as_str());
     Ok(())
 }
 
