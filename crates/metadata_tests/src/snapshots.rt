@@ -47,8 +47,10 @@ fn neighbour_read(alloc: Global, changes: &str) -> Result<Meta, MetaErr> {
 fn texts(alloc: Global) -> Result<PairTexts, AllocError>
     ensures { IfOk result (λ t. AreTexts t) }
 {
-    let (added, number) = (text_of(alloc, "added-records")?, text_of(alloc, "2")?);
-    let (other, value) = (text_of(alloc, "z")?, text_of(alloc, "y")?);
+    let added = text_of(alloc, "added-records")?;
+    let number = text_of(alloc, "2")?;
+    let other = text_of(alloc, "z")?;
+    let value = text_of(alloc, "y")?;
     let mut pairs = Vec::new(alloc);
     pairs.push((other, value))?;
     pairs.push((added, number))?;
