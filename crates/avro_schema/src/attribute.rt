@@ -6,13 +6,15 @@ ghost use Rattle.avro_schema.specs.Attribute.{text_at, narrow_unsigned, narrow_s
 
 use serde_json::Value;
 
-pub(crate) fn text_at<'v>(tree: &'v Value, key: &str) -> Option<&'v str>
+/// The text under a key of an object.
+pub fn text_at<'v>(tree: &'v Value, key: &str) -> Option<&'v str>
     ensures { option_map (λ t. t.now) result ≡ text_at key.now (view tree.now) }
 {
     tree.get(key).and_then(Value::as_str)
 }
 
-pub(crate) fn array_at<'v>(tree: &'v Value, key: &str) -> Option<&'v Vec<Value>>
+/// The items of the array under a key of an object.
+pub fn array_at<'v>(tree: &'v Value, key: &str) -> Option<&'v Vec<Value>>
     ensures { option_map (λ v. items_view v.now.items) result
         ≡ option_and_then as_array (get key.now (view tree.now)) }
 {
@@ -31,8 +33,9 @@ pub(crate) fn u32_of(tree: &Value) -> Option<u32>
     tree.as_u64().and_then(narrow_unsigned)
 }
 
+/// The whole number of 32 bits under a key of an object.
 #[tactic(auto, unfolding(crate::specs::Attribute::id_at))]
-pub(crate) fn id_at(tree: &Value, key: &str) -> Option<i32>
+pub fn id_at(tree: &Value, key: &str) -> Option<i32>
     ensures { result ≡ id_at key.now (view tree.now) }
 {
     tree.get(key)

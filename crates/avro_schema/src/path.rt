@@ -8,7 +8,7 @@ use crate::text::Text;
 use std::alloc::{AllocError, Global};
 
 /// The path of a member of the object at a path.
-pub(crate) fn key_path(alloc: Global, path: &str, key: &str) -> Result<String, AllocError>
+pub fn key_path(alloc: Global, path: &str, key: &str) -> Result<String, AllocError>
     ensures { IfOk result (λ p. string_bytes p ≡ key_path path.now key.now) }
 {
     if path.is_empty() {
@@ -19,7 +19,7 @@ pub(crate) fn key_path(alloc: Global, path: &str, key: &str) -> Result<String, A
 }
 
 /// The path of an item of the array at a path.
-pub(crate) fn index_path(alloc: Global, path: &str, index: usize) -> Result<String, AllocError>
+pub fn index_path(alloc: Global, path: &str, index: usize) -> Result<String, AllocError>
     ensures { IfOk result (λ p. string_bytes p ≡ index_path path.now index) }
 {
     format!(in alloc; "{path}[{index}]")

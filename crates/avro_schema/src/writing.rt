@@ -11,13 +11,15 @@ use crate::written::WrittenNames;
 use serde_json::{Map, Value};
 use std::alloc::{AllocError, Global};
 
-fn string(alloc: Global, text: &str) -> Result<Value, AllocError>
+/// A text as a JSON value.
+pub fn string(alloc: Global, text: &str) -> Result<Value, AllocError>
     ensures { IfOk result (λ v. view v ≡ string text.now) }
 {
     Ok(Value::String(String::from_str(alloc, text)?))
 }
 
-fn put_text(
+/// Puts a text under a key of an object.
+pub fn put_text(
     members: &mut Map<String, Value>,
     alloc: Global,
     key: &str,
