@@ -1,5 +1,5 @@
 -- A change that only looks at the table: what a commit of it tells is what the opening and one publish tell.
-use Rattle.std.proofs.Common.{◌≡◌, inl, inr, ℕ, ◌+◌, Bool, true, false, List, [], ◌∷◌, ◌++◌, take, length, Option, Some, None, Result, Ok, Err, refl, sym, ap, ◌∙◌, subst, append-nil}
+use Rattle.std.proofs.Common.{◌≡◌, inl, inr, ℕ, ◌+◌, Bool, true, false, List, [], ◌∷◌, ◌++◌, take, drop, length, Option, Some, None, Result, Ok, Err, refl, sym, ap, ◌∙◌, subst, append-nil, arith}
 use Rattle.serde_json.specs.Data.{Data}
 use Rattle.serde_json.specs.View.{view}
 use Rattle.ice_store.specs.Given.{Gives}
@@ -23,12 +23,12 @@ use Rattle.commit_publish.specs.Steps.{Anything, Exactly}
 use Rattle.commit_versions.specs.Names.{version_text_of}
 use Rattle.commit_versions.specs.Opening.{OpenStage}
 use Rattle.commit_protocol.specs.Attempts.{AttemptLeaves, CommitLeaves, limit_path}
-use Rattle.commit_protocol.specs.Ends.{CommitWorks, DrawsAlso, DrawsBy, DrawsOf, DrawsOne, IsThat, LeavesBy, LeavesOf, WasOpened, Works, may_be_unasked, may_draw}
-use Rattle.commit_protocol.specs.Kinds.{commit_end, commit_kind, error_kind, kind_of}
-use Rattle.commit_protocol.specs.Meanings.{Meanings, looking, only_successor}
+use Rattle.commit_protocol.specs.Ends.{CommitWorks, DrawsAlso, DrawsBy, DrawsOf, DrawsOne, IsThat, LeavesBy, LeavesOf, LeavesPublished, LeavesSome, WasOpened, Works, may_be_unasked, may_draw}
+use Rattle.commit_protocol.specs.Kinds.{attempt_kind, commit_end, commit_kind, error_kind, kind_of}
+use Rattle.commit_protocol.specs.Meanings.{LooksBy, Meanings, looking, only_successor}
 use Rattle.commit_protocol.specs.Metadata.{IsAt, table_rules}
 use Rattle.commit_protocol.specs.Prepares.{Prepared, Prepares}
-use Rattle.commit_protocol.specs.Rounds.{AnswersSo, AttemptTells, BuiltBy, CommitTells, IsUnasked, OpenedFirst, left_after}
+use Rattle.commit_protocol.specs.Rounds.{AnswersSo, AttemptTells, BuiltBy, CommitTells, IsUnasked, OpenedFirst, RoundTells, left_after}
 use Rattle.commit_protocol.specs.Written.{IsOn}
 use Rattle.commit_protocol.specs.declared.committing.Base.{Base}
 use Rattle.commit_protocol.specs.declared.opening.At.{At}
@@ -43,7 +43,6 @@ use Rattle.commit_protocol.specs.declared.errors.Committed.TheVariants.{Same, Pu
 use Rattle.commit_protocol.proofs.CommitLaws as laws
 use Rattle.commit_protocol.proofs.StepLaws.{opened_idle}
 use Rattle.commit_protocol.proofs.WorkLaws as works
-use Rattle.commit_protocol.proofs.WorkLaws.{LooksBy}
 
 -- Its log and its identifiers.
 
@@ -68,11 +67,32 @@ module _ (Drawn : ℕ → Type 0) (table : Parts) (had has : List Parts) (same :
   unasked_left (CommitUnknown v) may = absurd (cc (may))
 
 module _ (table : Parts) (had has : List Parts) where
+  published_left : (Drawn : ℕ → Type 0) (e : CommitErr) → LeavesPublished [] Drawn table [] (Some e) had has → LeavesBy Drawn table (commit_kind e) had has
+  published_left Drawn e (inl l) = unasked_left Drawn table had has l.1 e l.0
+  published_left Drawn e (inr l) = subst (λ (x : List Parts). LeavesBy Drawn table (commit_kind e) x has) (append-nil had) l
+
+  drop_none : (count : ℕ) → drop {A = Parts} count [] ≡ []
+  drop_none count = grind arith
+
+  none_left : (some : (count : ℕ) × (has ≡ had ++ drop count [])) → has ≡ had
+  none_left some = some.1 ∙ ap (λ (l : List Parts). had ++ l) (drop_none some.0) ∙ append-nil had
+
+  some_left : (Drawn : ℕ → Type 0) (kind : Kind) → LeavesSome [] kind had has → LeavesBy Drawn table kind had has
+  some_left Drawn kinds.Done l = absurd l
+  some_left Drawn kinds.Told l = absurd l
+  some_left Drawn (kinds.Fault place) l = inl (none_left l)
+  some_left Drawn (kinds.Unknown v) l = absurd l
+  some_left Drawn (kinds.Lost v) l = absurd l
+  some_left Drawn kinds.Memory l = inl (none_left l)
+
   pub plain_left : (Drawn : ℕ → Type 0) (r : Result Committed CommitErr) → LeavesOf [] Drawn table (commit_end r).versions (commit_end r).error had has → LeavesBy Drawn table (kind_of (commit_end r)) had has
   plain_left Drawn (Ok (Same v)) l = l ∙ append-nil had
   plain_left Drawn (Ok (Published v)) l = l
-  plain_left Drawn (Err e) (inl l) = unasked_left Drawn table had has l.1 e l.0
-  plain_left Drawn (Err e) (inr l) = subst (λ (x : List Parts). LeavesBy Drawn table (commit_kind e) x has) (append-nil had) l
+  plain_left Drawn (Err (Open e)) l = published_left Drawn (Open e) l
+  plain_left Drawn (Err (Attempt e)) (inl l) = published_left Drawn (Attempt e) l
+  plain_left Drawn (Err (Attempt e)) (inr l) = some_left Drawn (attempt_kind e) l
+  plain_left Drawn (Err (Contended v)) l = l
+  plain_left Drawn (Err (CommitUnknown v)) l = published_left Drawn (CommitUnknown v) l
 
 pub plain_draws : (a b : Option (List ℕ)) (r : Result Committed CommitErr) → DrawsOf [] (commit_end r).versions (commit_end r).error a b → DrawsBy (commit_end r).versions (commit_end r).error a b
 plain_draws a b (Ok (Same v)) d = d
@@ -92,7 +112,7 @@ take_whole (p ∷ l) = ap (λ (x : List Parts). p ∷ x) (take_whole l)
 -- What is told.
 
 module _ (table : Parts) (allows : Past → Step → Type 0) (mannered : IsMannered (table_rules table allows)) (S : Data → Data → Type 0) (T : Data → Type 0) (R : Data → AttemptErr → Type 0) (N : Data → Type 0)
-    (no_fault : (tree : Data) (place : Parts) → R tree (attempts.Read (StoreFault place)) → ⊥) (given given' : Option (List ℕ)) (now : ℕ) where
+    (given given' : Option (List ℕ)) (now : ℕ) where
   abbrev pub meanings : Meanings
   meanings = looking S T R N
 
@@ -119,7 +139,7 @@ module _ (table : Parts) (allows : Past → Step → Type 0) (mannered : IsManne
     on_of = record { place_is = refl; version_is = refl; text_is = refl; previous_is = refl }
 
     idle_of : (kind : Kind) (before : Option Failure) (old new : Past) → Prepares table allows meanings (view at.meta) kind at.place before old new → Idle old new
-    idle_of kind before old new run = ran_turned (table_rules table allows) (Prepared (Failing before new) meanings (view at.meta) kind) (Exactly []) K K old new run (λ l p. p.takes) (λ h. h)
+    idle_of kind before old new run = ran_turned (table_rules table allows) (Prepared (Failing before new) meanings (view at.meta) kind) (Exactly []) K K old new run (λ l p. p.takes.0) (λ h. h)
 
     forget : (old new : Past) → Idle old new → Ran (table_rules table allows) (Exactly []) Anything old new
     forget old new run = ran_turned (table_rules table allows) (Exactly []) (Exactly []) K Anything old new run (λ l e. e) (λ h. tt)
@@ -148,23 +168,13 @@ module _ (table : Parts) (allows : Past → Step → Type 0) (mannered : IsManne
     answered_leaves (Err (Contended v)) old new limit a run = absurd a
     answered_leaves (Err (CommitUnknown v)) old new limit a run = absurd a
 
-    looks : (e : AttemptErr) (new : Past) → R (view at.meta) e → LooksBy (Failing mark new) (error_kind (Some (Attempt e)))
-    looks (attempts.Refused refusal) new a = tt
-    looks (attempts.Conflict place other) new a = tt
-    looks (attempts.NameTaken place) new a = tt
-    looks (attempts.Read (Missing place)) new a = tt
-    looks (attempts.Read (Damaged place where_)) new a = tt
-    looks (attempts.Read (Unsupported place what)) new a = tt
-    looks (attempts.Read (StoreFault place)) new a = absurd (no_fault (view at.meta) place a)
-    looks (attempts.Read Memory) new a = tt
-
-    answered_does : (x : Result Committed CommitErr) (old new : Past) → AnswersSo table allows meanings given given' now at x → has ≡ had → Idle old new → Does x has old new
-    answered_does (Ok (Same v)) old new a same run = none_does None K old new same tt run
-    answered_does (Ok (Published v)) old new a same run = absurd a
-    answered_does (Err (Open e)) old new a same run = absurd a
-    answered_does (Err (Attempt e)) old new a same run = none_does (Some (Attempt e)) K old new same (looks e new a) run
-    answered_does (Err (Contended v)) old new a same run = absurd a
-    answered_does (Err (CommitUnknown v)) old new a same run = absurd a
+    answered_does : (x : Result Committed CommitErr) (old new : Past) → AnswersSo table allows meanings given given' now at x → has ≡ had → LooksBy (Failing mark new) (kind_of (commit_end x)) → Idle old new → Does x has old new
+    answered_does (Ok (Same v)) old new a same looks run = none_does None K old new same tt run
+    answered_does (Ok (Published v)) old new a same looks run = absurd a
+    answered_does (Err (Open e)) old new a same looks run = absurd a
+    answered_does (Err (Attempt e)) old new a same looks run = none_does (Some (Attempt e)) K old new same looks run
+    answered_does (Err (Contended v)) old new a same looks run = absurd a
+    answered_does (Err (CommitUnknown v)) old new a same looks run = absurd a
 
     -- It built a successor.
 
@@ -195,18 +205,23 @@ module _ (table : Parts) (allows : Past → Step → Type 0) (mannered : IsManne
     attempt_plain old new (inl u) = (unasked_leaves r old new u.0 u.3, unasked_does r old new u.0 u.1 u.3)
     attempt_plain old new (inr (inl a)) =
         let run = idle_of (kind_of (commit_end r)) mark old new a.prepared in
-        (answered_leaves r old new a.limit a.answer run, answered_does r old new a.answer (a.noted ∙ append-nil had) run)
+        (answered_leaves r old new a.limit a.answer run, answered_does r old new a.answer (a.noted ∙ append-nil had) a.prepared.made.takes.1 run)
     attempt_plain old new (inr (inr b)) = (built_leaves old new b, built_does old new b)
 
   module _ (r : Result Committed CommitErr) (mark : Option Failure) (had has : List Parts) (old new : Past) where
     abbrev pub Both : Result Committed CommitErr → Type 0
     Both x = CommitLeaves table allows meanings Drawn now x old new × CommitWorks table allows meanings Drawn now x mark had has old new
 
+    -- it made no file, so none is withdrawn
+    alone_told : (at : At) (mid : Past) → RoundTells table allows meanings given given' now at r mark had has mid new → AttemptTells table allows meanings given given' now at r mark had has mid new
+    alone_told at mid (inl t) = t.1
+    alone_told at mid (inr w) = absurd (w.some refl)
+
     opened_plain : OpenedFirst table allows meanings given given' now r mark had has old new → Both r
     opened_plain o =
         let at = o.at in
         let mid = o.mid in
-        let p = attempt_plain at r mark had has mid new o.then in
+        let p = attempt_plain at r mark had has mid new (alone_told at mid o.then) in
         let turned = works.works_turned S S Drawn table now (IsThat at) (WasOpened table allows old) (λ place last text tree that. record { at = at; mid = mid; opened = o.opened; that = that }) (λ place last text tree next that is. is) (commit_end r) mark had has mid new p.1 in (
           laws.committed_by table allows now Drawn meanings at r old mid new o.opened p.0,
           works.works_behind S Drawn table now (WasOpened table allows old) (table_rules table allows) Anything (commit_end r) mark had has old mid new (opened_idle table allows at.place at.text old mid o.opened.opened) turned,

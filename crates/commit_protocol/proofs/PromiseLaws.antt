@@ -26,6 +26,9 @@ use Rattle.commit_publish.specs.Steps.{Anything}
 use Rattle.commit_protocol.specs.Metadata.{metadata_reading, table_rules}
 use Rattle.commit_protocol.specs.Meanings.{Meanings}
 use Rattle.commit_protocol.specs.Rounds.{BuiltBy, CommitTells, IsUnasked}
+use Rattle.commit_protocol.specs.Withdraws.{lost_answer}
+use Rattle.commit_protocol.specs.declared.errors.RemoveErr.{RemoveErr}
+use Rattle.commit_protocol.specs.declared.errors.RemoveErr.TheVariants as removals
 use Rattle.commit_protocol.specs.Promises.{IsWholeAt, AtEachStop, HasPrefix, HasFiles, StopsHavePrefix, StopsHaveFiles, Succeeds, Succession}
 use Rattle.commit_protocol.specs.Verdicts.{IsNobody}
 use Rattle.commit_protocol.specs.declared.errors.CommitErr.{CommitErr}
@@ -78,11 +81,17 @@ module _ (table : Parts) (allows : Past → Step → Type 0) (nobody : IsNobody 
   pub succeeds : (r : Result Committed CommitErr) (mark : Option Failure) (had has : List Parts) (old new : Past) → CommitTells table allows meanings given given' now r mark had has old new → Succeeds meanings.successor table now r old new
   succeeds (Ok (Same v)) mark had has old new o = tt
   succeeds (Ok (Published v)) mark had has old new o = elim o.then [
-    | inl u ↦ absurd (no_publish u.0)
-    | inr (inl a) ↦ absurd a.answer
-    | inr (inr b) ↦ published b
+    | inl (_, inl u) ↦ absurd (no_publish u.0)
+    | inl (_, inr (inl a)) ↦ absurd a.answer
+    | inl (_, inr (inr b)) ↦ published b
+    | inr w ↦ absurd (never_lost w.version w.outcome w.answer)
   ]
     where
+      never_lost : (version : ℕ) (removed : Result (Unit {0}) RemoveErr) → Ok (Published v) ≡ lost_answer version removed → ⊥
+      never_lost version (Ok u) is = cc (is)
+      never_lost version (Err (removals.StoreFault place)) is = cc (is)
+      never_lost version (Err removals.Memory) is = cc (is)
+
       no_publish : IsUnasked table allows meanings given given' now o.at (Ok (Published v)) → ⊥
       no_publish (inl is) = absurd (cc (is))
       no_publish (inr is) = absurd (cc (is.0))

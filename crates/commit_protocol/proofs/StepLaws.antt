@@ -1,5 +1,5 @@
 -- However a commit ends, its steps were proper, and each stop within it is safe.
-use Rattle.std.proofs.Common.{◌≡◌, inl, inr, ℕ, false, List, [], Option, Result, Ok, Err}
+use Rattle.std.proofs.Common.{◌≡◌, inl, inr, ℕ, false, List, [], ◌++◌, Option, Result, Ok, Err}
 use Rattle.serde_json.specs.Data.{Data}
 use Rattle.serde_json.specs.View.{view}
 use Rattle.ice_store.specs.Given.{Gives}
@@ -29,8 +29,9 @@ use Rattle.commit_publish.specs.Kinds.{Kind, Failing}
 use Rattle.commit_protocol.specs.Kinds.{commit_end, kind_of}
 use Rattle.commit_protocol.specs.Meanings.{Meanings, only_successor}
 use Rattle.commit_protocol.specs.Prepares.{Prepared, Prepares}
-use Rattle.commit_protocol.specs.Rounds.{AttemptTells, CommitTells, OpenedFirst}
+use Rattle.commit_protocol.specs.Rounds.{AttemptTells, CommitTells, OpenedFirst, RoundTells}
 use Rattle.commit_protocol.specs.Metadata.{OpenErrLeaves, metadata_reading, table_rules}
+use Rattle.commit_protocol.specs.Withdraws.{WithdrawStage, Withdraws}
 use Rattle.ice_store.specs.declared.store.StoreErr.TheVariants as causes
 use Rattle.commit_protocol.specs.Attempts.{PublishedBy, AttemptLeaves, CommitLeaves, Attempted, stopped_at}
 use Rattle.commit_protocol.specs.declared.opening.At.{At}
@@ -152,8 +153,14 @@ module _ (table : Parts) (allows : Past → Step → Type 0) where
       round_steps old new (inr (inr b)) =
           both old b.ready new (prepared_steps (view at.meta) kinds.Done at.place b.before old b.ready b.prepared) (attempt_steps (only_successor b.built) (Gives b.asked given') now at b.ready new r b.published)
 
+    whole_steps : (at : At) (r : Result Committed CommitErr) (mark : Option Failure) (had has : List Parts) (old new : Past) → RoundTells table allows meanings given given' now at r mark had has old new → Steps old new
+    whole_steps at r mark had has old new (inl t) = round_steps at r mark had has old new t.1
+    whole_steps at r mark had has old new (inr w) =
+        both old w.beaten new (round_steps at (Err (Contended w.version)) w.before had (had ++ meanings.made) old w.beaten w.tried)
+        (some (Withdraws (Failing mark new) table meanings.made w.outcome (had ++ meanings.made) has) (WithdrawStage w.outcome) w.beaten new w.withdrawn)
+
     opened_steps : (r : Result Committed CommitErr) (mark : Option Failure) (had has : List Parts) (old new : Past) → OpenedFirst table allows meanings given given' now r mark had has old new → Steps old new
-    opened_steps r mark had has old new o = both old o.mid new (some (Exactly []) Anything old o.mid (opened_idle o.at.place o.at.text old o.mid o.opened.opened)) (round_steps o.at r mark had has o.mid new o.then)
+    opened_steps r mark had has old new o = both old o.mid new (some (Exactly []) Anything old o.mid (opened_idle o.at.place o.at.text old o.mid o.opened.opened)) (whole_steps o.at r mark had has o.mid new o.then)
 
     pub tells_steps : (r : Result Committed CommitErr) (mark : Option Failure) (had has : List Parts) (old new : Past) → CommitTells table allows meanings given given' now r mark had has old new → Steps old new
     tells_steps (Ok c) mark had has old new h = opened_steps (Ok c) mark had has old new h

@@ -276,7 +276,10 @@ module _ (table : Parts) (allows : Past → Step → Type 0) (nobody : IsNobody 
 
     module _ (mark : Option Failure) (had has : List Parts) (old new : Past) where
       opened_ends : (r : Result Committed CommitErr) → OpenedFirst table allows meanings given given' now_ms r mark had has old new → Verdict (replay old).files r
-      opened_ends r o = attempt_ends o.at old o.mid o.opened mark had has new r o.then
+      opened_ends r o = elim o.then [
+        | inl t ↦ attempt_ends o.at old o.mid o.opened mark had has new r t.1
+        | inr w ↦ absurd (attempt_ends o.at old o.mid o.opened w.before had (had ++ meanings.made) w.beaten (Err (Contended w.version)) w.tried)
+      ]
 
     pub commit_ends : (r : Result Committed CommitErr) (mark : Option Failure) (had has : List Parts) (old new : Past) → CommitTells table allows meanings given given' now_ms r mark had has old new → Verdict (replay old).files r
     commit_ends (Ok c) mark had has old new h = opened_ends mark had has old new (Ok c) h

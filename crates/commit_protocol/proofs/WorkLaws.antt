@@ -32,6 +32,7 @@ use Rattle.commit_publish.specs.declared.publish.PublishErr.TheVariants as publi
 use Rattle.commit_versions.specs.Opening.{OpenMarks}
 use Rattle.commit_protocol.specs.Ends.{Publish, IsPublished, IsBeaten, IsStopped, IsFailed, TookBy, Works, IsThat, PublishedWorks, draft_of, new_place, new_version}
 use Rattle.commit_protocol.specs.Kinds.{End, commit_end, kind_of, error_kind, commit_kind}
+use Rattle.commit_protocol.specs.Meanings.{LooksBy}
 use Rattle.commit_protocol.specs.Written.{IsOn, IsWritten, commit_error_by, next_tree, stop_error, version_at}
 use Rattle.commit_protocol.specs.declared.committing.Base.{Base}
 use Rattle.commit_protocol.specs.declared.committing.Written.{Written}
@@ -39,15 +40,6 @@ use Rattle.commit_protocol.specs.declared.opening.At.{At}
 use Rattle.commit_protocol.specs.declared.errors.CommitErr.{CommitErr}
 use Rattle.commit_protocol.specs.declared.errors.Committed.TheVariants.{Published}
 use Rattle.commit_protocol.proofs.EndLaws.{since_at}
-
--- an end by this kind before the first step of ours, where a failed call was a look
-abbrev pub LooksBy : (StoreCall → Type 0) → Kind → Type 0
-LooksBy Fails kinds.Done = Unit {0}
-LooksBy Fails kinds.Told = Unit {0}
-LooksBy Fails (kinds.Fault place) = Fails (Look place)
-LooksBy Fails (kinds.Unknown version) = ⊥
-LooksBy Fails (kinds.Lost version) = ⊥
-LooksBy Fails kinds.Memory = Unit {0}
 
 -- where the marks tell so of the exit
 pub looked : (kind : Kind) (before mark : Option Failure) (o a : Option Past) (R : Past → Past → Type 0) → OpenMarks kind before mark a → Since o a R → Since o a (λ old new. R old new × LooksBy (Failing mark new) kind)

@@ -1,5 +1,5 @@
 -- What work on a table did, by the kind of its end: which steps it took, which versions it published, and which places it left.
-use Rattle.std.specs.Prelude.{◌≡◌, ◌⊎◌, ℕ, ◌+◌, ◌≤◌, Bool, true, false, List, [], ◌∷◌, ◌++◌, length, Option, Some, None, Result, Err}
+use Rattle.std.specs.Prelude.{◌≡◌, ◌⊎◌, ℕ, ◌+◌, ◌≤◌, Bool, true, false, List, [], ◌∷◌, ◌++◌, drop, length, Option, Some, None, Result, Err}
 use Rattle.serde_json.specs.Data.{Data}
 use Rattle.serde_json.specs.View.{view}
 use Rattle.ice_store.specs.Places.{Parts}
@@ -25,10 +25,11 @@ use Rattle.commit_publish.specs.declared.publish.Log.{Log}
 use Rattle.commit_publish.specs.declared.steps.PublishCall.{PublishCall}
 use Rattle.commit_versions.specs.Opening.{file_limit}
 use Rattle.commit_protocol.specs.Attempts.{Writes}
-use Rattle.commit_protocol.specs.Kinds.{End, commit_end, commit_kind, kind_of, is_renaming}
+use Rattle.commit_protocol.specs.Kinds.{End, attempt_kind, commit_end, commit_kind, kind_of, is_renaming}
 use Rattle.commit_protocol.specs.Meanings.{Meanings}
 use Rattle.commit_protocol.specs.Metadata.{IsAt}
 use Rattle.commit_protocol.specs.Prepares.{GivesAll, GivesLast}
+use Rattle.commit_protocol.specs.Withdraws.{IsMadeAt}
 use Rattle.commit_protocol.specs.Written.{IsOn, draft_at, version_at}
 use Rattle.commit_protocol.specs.declared.committing.Base.{Base}
 use Rattle.commit_protocol.specs.declared.opening.At.{At}
@@ -155,10 +156,10 @@ LeavesBy Drawn table kinds.Memory had has = (has ≡ had) ⊎ AddsPlaces (IsDraf
 abbrev pub IsPublishFault : (ℕ → Type 0) → Parts → Parts → Type 0
 IsPublishFault Drawn table place = (place ≡ table) ⊎ ((id : ℕ) × Drawn id × (place ≡ draft_at table id))
 
--- a fault of an attempt is told there, or the change refuses a base with it
+-- a fault of an attempt is told there, or at a file that the change made and was to remove, or the change refuses a base with it
 abbrev pub TellsFault : Meanings → (ℕ → Type 0) → Parts → Result Committed CommitErr → Type 0
 TellsFault meanings Drawn table result = (place : Parts) → result ≡ Err (commits.Attempt (attempts.Read (reads.StoreFault place)))
-    → ((tree : Data) × meanings.refuses tree (attempts.Read (reads.StoreFault place))) ⊎ IsPublishFault Drawn table place
+    → ((tree : Data) × meanings.refuses tree (attempts.Read (reads.StoreFault place))) ⊎ (IsPublishFault Drawn table place ⊎ IsMadeAt meanings.made place)
 
 -- a refusal is one of some base by the change
 abbrev pub IsRefusedBy : Meanings → Result Committed CommitErr → Type 0
@@ -214,13 +215,38 @@ DrawsOf ids [] None before after = DrawsAlso ids false before after
 DrawsOf ids (v ∷ versions) None before after = DrawsAlso ids true before after
 DrawsOf ids versions (Some e) before after = ((may_be_unasked e ≡ true) × (after ≡ before)) ⊎ (DrawsAlso ids false before after ⊎ DrawsAlso ids (may_draw e) before after)
 
--- which places are behind those that the log had, where the change's files are these, by the versions and the error: after a publish none, and else its files, where it was asked, and those of the publish
-abbrev pub LeavesOf : List Parts → (ℕ → Type 0) → Parts → List ℕ → Option CommitErr → List Parts → List Parts → Type 0
-LeavesOf made Drawn table [] None had has = has ≡ had ++ made
-LeavesOf made Drawn table (v ∷ versions) None had has = has ≡ had
-LeavesOf made Drawn table versions (Some e) had has = ((may_be_unasked e ≡ true) × (has ≡ had)) ⊎ LeavesBy Drawn table (commit_kind e) (had ++ made) has
+-- the places behind those that the log had, where the change's files are these, once its publish ended, by the versions and the error: after a publish none, and else its files, where it was asked, and those of the publish
+abbrev pub LeavesPublished : List Parts → (ℕ → Type 0) → Parts → List ℕ → Option CommitErr → List Parts → List Parts → Type 0
+LeavesPublished made Drawn table [] None had has = has ≡ had ++ made
+LeavesPublished made Drawn table (v ∷ versions) None had has = has ≡ had
+LeavesPublished made Drawn table versions (Some e) had has = ((may_be_unasked e ≡ true) × (has ≡ had)) ⊎ LeavesBy Drawn table (commit_kind e) (had ++ made) has
 
--- so of a commit's end, between two logs
+-- of the change's files some were removed before a call failed or memory lacked
+abbrev pub LeavesSome : List Parts → Kind → List Parts → List Parts → Type 0
+LeavesSome made kinds.Done had has = ⊥
+LeavesSome made kinds.Told had has = ⊥
+LeavesSome made (kinds.Fault place) had has = (count : ℕ) × (has ≡ had ++ drop count made)
+LeavesSome made (kinds.Unknown version) had has = ⊥
+LeavesSome made (kinds.Lost version) had has = ⊥
+LeavesSome made kinds.Memory had has = (count : ℕ) × (has ≡ had ++ drop count made)
+
+-- the same of an error at the commit's end: after a lost race none, and after one whose files were not all removed those that weren't
+abbrev pub LeavesAtError : List Parts → (ℕ → Type 0) → Parts → CommitErr → List Parts → List Parts → Type 0
+LeavesAtError made Drawn table (commits.Open e) had has = LeavesPublished made Drawn table [] (Some (commits.Open e)) had has
+LeavesAtError made Drawn table (commits.Attempt e) had has = LeavesPublished made Drawn table [] (Some (commits.Attempt e)) had has ⊎ LeavesSome made (attempt_kind e) had has
+LeavesAtError made Drawn table (commits.Contended version) had has = has ≡ had
+LeavesAtError made Drawn table (commits.CommitUnknown version) had has = LeavesPublished made Drawn table [] (Some (commits.CommitUnknown version)) had has
+
+-- and at its end
+abbrev pub LeavesOf : List Parts → (ℕ → Type 0) → Parts → List ℕ → Option CommitErr → List Parts → List Parts → Type 0
+LeavesOf made Drawn table versions None had has = LeavesPublished made Drawn table versions None had has
+LeavesOf made Drawn table versions (Some e) had has = LeavesAtError made Drawn table e had has
+
+-- so of an attempt, whose publish ended so, between two logs
+abbrev pub IsLeftPublished : Meanings → Option (List ℕ) → Option (List ℕ) → Parts → End → Log → Log → Type 0
+IsLeftPublished meanings given given' table end log log' = LeavesPublished meanings.made (GivesLast meanings.draws given given') table end.versions end.error log.left.items log'.left.items
+
+-- and of a commit
 abbrev pub IsLeftOf : Meanings → Option (List ℕ) → Option (List ℕ) → Parts → End → Log → Log → Type 0
 IsLeftOf meanings given given' table end log log' = LeavesOf meanings.made (GivesLast meanings.draws given given') table end.versions end.error log.left.items log'.left.items
 

@@ -4,6 +4,7 @@ pub mod Kinds
 pub mod Attempts
 pub mod Written
 pub mod Prepares
+pub mod Withdraws
 pub mod Ends
 pub mod Rounds
 pub mod Verdicts

@@ -4,20 +4,32 @@ use Rattle.serde_json.specs.Data.{Data}
 use Rattle.ice_store.specs.Places.{Parts}
 use Rattle.ice_store.specs.declared.history.Past.{Past}
 use Rattle.ice_store.specs.declared.history.Step.{Step}
+use Rattle.ice_store.specs.declared.history.StoreCall.{StoreCall}
+use Rattle.ice_store.specs.declared.history.StoreCall.TheVariants.{Look}
 use Rattle.commit_publish.specs.Kinds.{Kind}
+use Rattle.commit_publish.specs.Kinds as kinds
 use Rattle.commit_protocol.specs.declared.errors.AttemptErr.{AttemptErr}
 
 -- the meanings of a change: which metadata succeeds a base's, when there is nothing to change, how a base is refused, and what was kept of the base on which it was asked;
--- which steps an attempt on a base with such an end takes; the identifiers that the last attempt drew, and the files that it made, in order; and what it found of the history
+-- which steps an attempt on a base with such an end takes, where this says which call failed; the identifiers that the last attempt drew, and the files that it made, in order; and what it found of the history
 pub record Meanings : Type 1 where
   pub successor : Data → Data → Type 0
   pub same : Data → Type 0
   pub refuses : Data → AttemptErr → Type 0
   pub seen : Data → Type 0
-  pub takes : Data → Kind → List Step → Type 0
+  pub takes : Data → Kind → (StoreCall → Type 0) → List Step → Type 0
   pub draws : List ℕ
   pub made : List Parts
   pub met : Past → Past → Type 0
+
+-- an end by this kind before the first step of ours, where a failed call was a look
+abbrev pub LooksBy : (StoreCall → Type 0) → Kind → Type 0
+LooksBy Fails kinds.Done = Unit {0}
+LooksBy Fails kinds.Told = Unit {0}
+LooksBy Fails (kinds.Fault place) = Fails (Look place)
+LooksBy Fails (kinds.Unknown version) = ⊥
+LooksBy Fails (kinds.Lost version) = ⊥
+LooksBy Fails kinds.Memory = Unit {0}
 
 -- a change that only looks at the table: it takes no step, draws no identifier, and makes no file
 abbrev pub looking : (Data → Data → Type 0) → (Data → Type 0) → (Data → AttemptErr → Type 0) → (Data → Type 0) → Meanings
@@ -26,7 +38,7 @@ looking successor same refuses seen = record {
   same = same;
   refuses = refuses;
   seen = seen;
-  takes = λ tree kind steps. steps ≡ [];
+  takes = λ tree kind Fails steps. (steps ≡ []) × LooksBy Fails kind;
   draws = [];
   made = [];
   met = λ old new. Unit {0};

@@ -47,7 +47,7 @@ MoreBy Fails kinds.Memory more = more ≡ []
 
 -- the steps of an attempt that ended so: they are some of those that its meanings give, they only make files, and the files that the meanings name are those that were created
 pub record Prepared (Fails : StoreCall → Type 0) (meanings : Meanings) (tree : Data) (kind : Kind) (steps : List Step) : Type 0 where
-  pub takes : meanings.takes tree kind steps
+  pub takes : meanings.takes tree kind Fails steps
   pub only : OnlyMakes steps
   pub more : List Parts
   pub noted : meanings.made ≡ made_by 0 [] steps ++ more

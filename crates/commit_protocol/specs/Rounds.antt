@@ -1,5 +1,5 @@
 -- What a commit tells: the table is opened, the change is asked, and what it built is published.
-use Rattle.std.specs.Prelude.{◌≡◌, ◌⊎◌, ℕ, List, ◌∷◌, ◌++◌, take, length, Option, Result, Ok, Err}
+use Rattle.std.specs.Prelude.{◌≡◌, ◌⊎◌, ℕ, List, [], ◌∷◌, ◌++◌, take, length, Option, Result, Ok, Err}
 use Rattle.serde_json.specs.Data.{Data}
 use Rattle.serde_json.specs.View.{view}
 use Rattle.ice_store.specs.Given.{Gives}
@@ -19,12 +19,14 @@ use Rattle.commit_protocol.specs.Kinds.{commit_end, kind_of}
 use Rattle.commit_protocol.specs.Meanings.{Meanings, only_successor}
 use Rattle.commit_protocol.specs.Metadata.{IsAt, OpenErrLeaves}
 use Rattle.commit_protocol.specs.Prepares.{GivesAll, Prepares}
+use Rattle.commit_protocol.specs.Withdraws.{MadeNone, Withdrawn, lost_answer, lost_version}
 use Rattle.commit_protocol.specs.declared.opening.At.{At}
 use Rattle.commit_protocol.specs.declared.errors.AttemptErr.TheVariants as attempts
 use Rattle.commit_protocol.specs.declared.errors.CommitErr.TheVariants.{Open, Attempt, Contended, CommitUnknown}
 use Rattle.commit_protocol.specs.declared.errors.Committed.{Committed}
 use Rattle.commit_protocol.specs.declared.errors.Committed.TheVariants.{Same, Published}
 use Rattle.commit_protocol.specs.declared.errors.CommitErr.{CommitErr}
+use Rattle.commit_protocol.specs.declared.errors.RemoveErr.{RemoveErr}
 
 -- a log's places once a publish ended: where it published, its first ones, so many as there were before the change was asked, since the version names the change's files
 abbrev pub left_after : Result Committed CommitErr → ℕ → List Parts → List Parts
@@ -77,12 +79,27 @@ module _ (table : Parts) (allows : Past → Step → Type 0) (meanings : Meaning
   abbrev pub AttemptTells : At → Result Committed CommitErr → Option Failure → List Parts → List Parts → Past → Past → Type 0
   AttemptTells at result mark had has old new = (IsUnasked at result × (has ≡ had) × (given' ≡ given) × TakesNoStep table allows old new) ⊎ (AnsweredBy at result mark had has old new ⊎ BuiltBy at result mark had has old new)
 
+  -- others took the version that would have named the change's files, of which there are some: then they were removed
+  pub record WithdrewBy (at : At) (result : Result Committed CommitErr) (mark : Option Failure) (had has : List Parts) (old new : Past) : Type 0 where
+    pub version : ℕ
+    pub before : Option Failure
+    pub beaten : Past
+    pub tried : AttemptTells at (Err (Contended version)) before had (had ++ meanings.made) old beaten
+    pub some : meanings.made ≡ [] → ⊥
+    pub outcome : Result (Unit {0}) RemoveErr
+    pub answer : result ≡ lost_answer version outcome
+    pub withdrawn : Withdrawn table allows meanings.made mark outcome (had ++ meanings.made) has beaten new
+
+  -- what an attempt on an opened table tells with the removal of its files, where it lost the race
+  abbrev pub RoundTells : At → Result Committed CommitErr → Option Failure → List Parts → List Parts → Past → Past → Type 0
+  RoundTells at result mark had has old new = (MadeNone (lost_version result) meanings.made × AttemptTells at result mark had has old new) ⊎ WithdrewBy at result mark had has old new
+
   -- the table was opened, and the attempt on it told this
   pub record OpenedFirst (result : Result Committed CommitErr) (mark : Option Failure) (had has : List Parts) (old new : Past) : Type 0 where
     pub at : At
     pub mid : Past
     pub opened : IsAt table allows at old mid
-    pub then : AttemptTells at result mark had has mid new
+    pub then : RoundTells at result mark had has mid new
 
   -- what a commit tells, by its answer
   abbrev pub CommitTells : Result Committed CommitErr → Option Failure → List Parts → List Parts → Past → Past → Type 0
@@ -98,6 +115,11 @@ module _ (table : Parts) (allows : Past → Step → Type 0) (meanings : Meaning
 abbrev pub Asking : {T : Type 0} → (T → Option Past) → T → T → Parts → (Past → Step → Type 0) → Meanings → Option (List ℕ) → Option (List ℕ) → ℕ → At → Result Committed CommitErr → Option Failure → Log → Log → Type 0
 Asking past store store' table allows meanings given given' now at result mark log log' =
     Since (past store) (past store') (AttemptTells table allows meanings given given' now at result mark log.left.items log'.left.items)
+
+-- of an attempt with the removal of its files
+abbrev pub Trying : {T : Type 0} → (T → Option Past) → T → T → Parts → (Past → Step → Type 0) → Meanings → Option (List ℕ) → Option (List ℕ) → ℕ → At → Result Committed CommitErr → Option Failure → Log → Log → Type 0
+Trying past store store' table allows meanings given given' now at result mark log log' =
+    Since (past store) (past store') (RoundTells table allows meanings given given' now at result mark log.left.items log'.left.items)
 
 -- of a commit
 abbrev pub Committing : {T : Type 0} → (T → Option Past) → T → T → Parts → (Past → Step → Type 0) → Meanings → Option (List ℕ) → Option (List ℕ) → ℕ → Result Committed CommitErr → Option Failure → Log → Log → Type 0

@@ -1,12 +1,12 @@
 //! A change of a table, as a commit asks for it.
-ghost use Rattle.std.specs.Prelude.{◌≡◌, ◌≤◌, ◌<◌, ◌^◌, ◌++◌, Ok, IfOk, IfErr, OnOk};
+ghost use Rattle.std.specs.Prelude.{◌≡◌, ◌≤◌, ◌<◌, ◌^◌, [], ◌++◌, Ok, IfOk, IfErr, OnOk};
 ghost use Rattle.ice_store.specs.Others.{WhereTold};
 ghost use Rattle.ice_store.specs.Since.{Since};
 ghost use Rattle.serde_json.specs.Data.{Data as Tree};
 ghost use Rattle.serde_json.specs.View.{view};
 ghost use Rattle.commit_history.specs.Mannered.{IsMannered};
 ghost use Rattle.commit_history.specs.Versions.{number_in};
-ghost use Rattle.commit_publish.specs.Stages.{InState};
+ghost use Rattle.commit_publish.specs.Stages.{AtRest, InState};
 ghost use Rattle.commit_publish.specs.Kinds.{Counts, Marks};
 ghost use Rattle.commit_versions.specs.Opening.{OpenStage};
 ghost use Rattle.commit_protocol.specs.Meanings.{Meanings};
@@ -16,9 +16,10 @@ ghost use Rattle.ice_store.specs.Places.{place_in};
 ghost use Rattle.commit_protocol.specs.Attempts.{MakesOf};
 ghost use Rattle.commit_protocol.specs.Kinds.{attempted_kind};
 ghost use Rattle.commit_protocol.specs.Prepares.{GivesAll, Prepares};
+ghost use Rattle.commit_protocol.specs.Withdraws.{IsBehind, LeavesUnmade, TellsWithdraw, Withdrawing, withdraw_kind};
 ghost use Rattle.commit_protocol.specs.declared.errors.AttemptErr.{AttemptErr as Refused};
 
-use crate::errors::AttemptErr;
+use crate::errors::{AttemptErr, RemoveErr};
 use commit_publish::Log;
 use ice_store::{Ids, Manners, Place, Store};
 use std::alloc::Global;
@@ -34,7 +35,7 @@ pub enum Built {
 }
 
 /// A change of a table: it builds new metadata of a base, reads files if need be, and makes the files that the metadata
-/// names. It publishes nothing.
+/// names. It publishes nothing. Where others took the version that it was for, it removes the files that it made.
 pub trait Change<M: Manners> {
     /// What the change means, as it was when it was asked (the first) and as it is now: the second plays a part only in
     /// what was kept of the base (`seen`) and of the attempt: the identifiers that it drew, the files that it made, and what
@@ -72,6 +73,7 @@ pub trait Change<M: Manners> {
         ensures keeps_successor { (a b : Tree) → (meanings self.new self.new).successor a b → (meanings self.old self.new).successor a b }
         ensures keeps_same { (a : Tree) → (meanings self.new self.new).same a → (meanings self.old self.new).same a }
         ensures keeps_refuses { (a : Tree) (e : Refused) → (meanings self.new self.new).refuses a e → (meanings self.old self.new).refuses a e }
+        ensures keeps_made { (meanings self.new self.new).made ≡ (meanings self.old self.new).made }
         ensures drawn { GivesAll (meanings self.old self.new).draws (I.given ids.old) (I.given ids.new) }
         ensures committed { log.new.committed.items ≡ log.old.committed.items }
         ensures left { log.new.left.items ≡ log.old.left.items ++ (meanings self.old self.new).made }
@@ -79,4 +81,27 @@ pub trait Change<M: Manners> {
         ensures cause { Counts (attempted_kind result) (S.faults store.old) (S.faults store.new) }
         ensures later { S.faults store.old ≤ S.faults store.new }
         ensures halted { Marks table.now (attempted_kind result) (S.halted store.old) (S.halted store.new) (S.past store.new) };
+
+    /// Removes the files that the last attempt made, in order, once others took the version that would have named them, and
+    /// syncs the names behind the removals. The log's `left` has them at its end, and loses those that are gone. Where none
+    /// was made, no call is made. After a failed call it makes no further one.
+    fn lost<S: Store<M>>(
+        &self,
+        store: &mut S,
+        table: &Place,
+        log: &mut Log,
+    ) -> Result<(), RemoveErr>
+        requires mannered { IsMannered (table_rules table.now (M.allows (S.manners store.old))) }
+        requires rest { WhereTold (S.past store.old) (InState (λ d. AtRest d.pending)) }
+        requires noted { IsBehind (meanings self.now self.now).made log.old.left.items }
+        ensures told { Withdrawing S.past store.old store.new table.now (M.allows (S.manners store.old)) (meanings self.now self.now).made (S.halted store.new) result log.old.left.items log.new.left.items }
+        ensures still { (meanings self.now self.now).made ≡ [] → S.past store.new ≡ S.past store.old }
+        ensures none { (meanings self.now self.now).made ≡ [] → result ≡ Ok tt }
+        ensures place { TellsWithdraw (meanings self.now self.now).made table.now result }
+        ensures left { LeavesUnmade (meanings self.now self.now).made result log.old.left.items log.new.left.items }
+        ensures committed { log.new.committed.items ≡ log.old.committed.items }
+        ensures manners { S.manners store.new ≡ S.manners store.old }
+        ensures cause { Counts (withdraw_kind result) (S.faults store.old) (S.faults store.new) }
+        ensures later { S.faults store.old ≤ S.faults store.new }
+        ensures halted { Marks table.now (withdraw_kind result) (S.halted store.old) (S.halted store.new) (S.past store.new) };
 }

@@ -15,18 +15,19 @@ ghost use Rattle.commit_versions.specs.Latest.{IsBaseNumber};
 ghost use Rattle.commit_versions.specs.Opening.{OpenStage, OpenFaultAt, FileIs};
 ghost use Rattle.commit_versions.specs.declared.types.OpenErr.{OpenErr as TheOpenErr};
 ghost use Rattle.commit_protocol.specs.Attempts.{TellsLimit};
-ghost use Rattle.commit_protocol.specs.Ends.{DrawsBy, DrawsOf, IsLeftOf, IsRefusedBy, LeavesBy, PublishWorked, TellsFault};
+ghost use Rattle.commit_protocol.specs.Ends.{DrawsBy, DrawsOf, IsLeftOf, IsLeftPublished, IsRefusedBy, LeavesBy, PublishWorked, TellsFault};
 ghost use Rattle.commit_protocol.specs.Kinds.{commit_end, kind_of};
 ghost use Rattle.commit_protocol.specs.Meanings.{only_successor};
 ghost use Rattle.commit_protocol.specs.Metadata.{IsMetadata, table_rules};
 ghost use Rattle.commit_protocol.specs.Prepares.{GivesLast};
 ghost use Rattle.commit_protocol.specs.Promises.{StopsHavePrefix, StopsHaveFiles, Succeeds};
-ghost use Rattle.commit_protocol.specs.Rounds.{Asking, Committing, left_after};
+ghost use Rattle.commit_protocol.specs.Rounds.{Asking, Trying, Committing, left_after};
 ghost use Rattle.commit_protocol.specs.Verdicts.{IsNobody, IsCausedOf, IsExactlyOf};
+ghost use Rattle.commit_protocol.specs.Withdraws.{lost_answer, lost_version};
 ghost use Rattle.commit_protocol.specs.Written.{IsOn, IsWritten, IsUnwritten, PublishedLeaves, commit_error_by, stop_error, version_at};
 
 use crate::change::{Built, Change};
-use crate::errors::{AttemptErr, CommitErr, Committed};
+use crate::errors::{AttemptErr, CommitErr, Committed, RemoveErr};
 use crate::opening::{At, Metadata, open_table};
 use commit_publish::{Log, PublishCall, PublishErr, Route, StepErr, publish_version};
 use commit_versions::{FILE_LIMIT, draft_place, version_place, version_text};
@@ -226,7 +227,7 @@ fn settle_left(log: &mut Log, count: usize, ended: &Result<Committed, CommitErr>
     }
 }
 
-fn attempt_on<M: Manners, S: Store<M>, I: Ids, X: Change<M>>(
+fn attempt_once<M: Manners, S: Store<M>, I: Ids, X: Change<M>>(
     alloc: Global,
     store: &mut S,
     ids: &mut I,
@@ -248,8 +249,9 @@ fn attempt_on<M: Manners, S: Store<M>, I: Ids, X: Change<M>>(
     ensures later { S.faults store.old ≤ S.faults store.new }
     ensures halted { Marks table.now (kind_of (commit_end result)) (S.halted store.old) (S.halted store.new) (S.past store.new) }
     ensures committed { log.new.committed.items ≡ log.old.committed.items ++ (commit_end result).versions }
-    ensures left { IsLeftOf (X.meanings change.old change.new) (I.given ids.old) (I.given ids.new) table.now (commit_end result) log.old log.new }
+    ensures left { IsLeftPublished (X.meanings change.old change.new) (I.given ids.old) (I.given ids.new) table.now (commit_end result) log.old log.new }
     ensures drawn { DrawsOf (X.meanings change.old change.new).draws (commit_end result).versions (commit_end result).error (I.given ids.old) (I.given ids.new) }
+    ensures kept { (X.meanings change.new change.new).made ≡ (X.meanings change.old change.new).made }
     ensures refused { IsRefusedBy (X.meanings change.old change.new) result }
     ensures fault_place { TellsFault (X.meanings change.old change.new) (GivesLast (X.meanings change.old change.new).draws (I.given ids.old) (I.given ids.new)) table.now result }
     ensures unopened { (e : TheOpenErr) → result ≡ Err (CommitErr.Open e) → ⊥ }
@@ -272,6 +274,64 @@ fn attempt_on<M: Manners, S: Store<M>, I: Ids, X: Change<M>>(
             version: base.version,
         }),
         Err(e) => Err(CommitErr::Attempt(e)),
+    }
+}
+
+// the version for which the race was lost
+fn lost_version(ended: &Result<Committed, CommitErr>) -> Option<u64>
+    ensures { result ≡ lost_version ended.now }
+{
+    match ended {
+        Err(CommitErr::Contended { version }) => Some(*version),
+        _ => None,
+    }
+}
+
+// what is answered once the files of a lost attempt are removed, or aren't
+fn lost_answer(version: u64, removed: Result<(), RemoveErr>) -> Result<Committed, CommitErr>
+    ensures { result ≡ lost_answer version removed }
+{
+    Err(match removed {
+        Ok(()) => CommitErr::Contended { version },
+        Err(RemoveErr::StoreFault { place }) => {
+            CommitErr::Attempt(AttemptErr::Read(ReadErr::StoreFault { place }))
+        }
+        Err(RemoveErr::Memory) => CommitErr::Attempt(AttemptErr::Read(ReadErr::Memory)),
+    })
+}
+
+fn attempt_on<M: Manners, S: Store<M>, I: Ids, X: Change<M>>(
+    alloc: Global,
+    store: &mut S,
+    ids: &mut I,
+    now: u64,
+    table: &Place,
+    at: At,
+    change: &mut X,
+    log: &mut Log,
+) -> Result<Committed, CommitErr>
+    requires mannered { IsMannered (table_rules table.now (M.allows (S.manners store.old))) }
+    requires numbers { IsBaseNumber (number_in table.now) at.place at.version }
+    requires metadata { IsMetadata table.now at.text (view at.meta) }
+    requires moment { now < 2 ^ 63 }
+    requires start { WhereTold (S.past store.old) (InState (OpenStage (number_in table.now) at.place)) }
+    requires read { WhereTold (S.past store.old) (InState (λ d. FileIs at.place at.text d.files)) }
+    ensures told { Trying S.past store.old store.new table.now (M.allows (S.manners store.old)) (X.meanings change.old change.new) (I.given ids.old) (I.given ids.new) now at result (S.halted store.new) log.old log.new }
+    ensures manners { S.manners store.new ≡ S.manners store.old }
+    ensures cause { Counts (kind_of (commit_end result)) (S.faults store.old) (S.faults store.new) }
+    ensures later { S.faults store.old ≤ S.faults store.new }
+    ensures halted { Marks table.now (kind_of (commit_end result)) (S.halted store.old) (S.halted store.new) (S.past store.new) }
+    ensures committed { log.new.committed.items ≡ log.old.committed.items ++ (commit_end result).versions }
+    ensures left { IsLeftOf (X.meanings change.old change.new) (I.given ids.old) (I.given ids.new) table.now (commit_end result) log.old log.new }
+    ensures drawn { DrawsOf (X.meanings change.old change.new).draws (commit_end result).versions (commit_end result).error (I.given ids.old) (I.given ids.new) }
+    ensures refused { IsRefusedBy (X.meanings change.old change.new) result }
+    ensures fault_place { TellsFault (X.meanings change.old change.new) (GivesLast (X.meanings change.old change.new).draws (I.given ids.old) (I.given ids.new)) table.now result }
+    ensures unopened { (e : TheOpenErr) → result ≡ Err (CommitErr.Open e) → ⊥ }
+{
+    let ended = attempt_once::<M, S, I, X>(alloc, store, ids, now, table, at, change, log);
+    match lost_version(&ended) {
+        None => ended,
+        Some(version) => lost_answer(version, change.lost::<S>(store, table, log)),
     }
 }
 

@@ -56,6 +56,16 @@ impl From<AllocError> for AttemptErr {
     }
 }
 
+/// Why files that an attempt made were not all removed.
+#[derive(Debug, Drop, Error)]
+pub enum RemoveErr {
+    /// A store call failed, which is told at its place, a sync of names at the table.
+    #[error("a file can't be removed")]
+    StoreFault { place: Place },
+    #[error("there is no memory")]
+    Memory,
+}
+
 /// Why a commit did not end.
 #[derive(Debug, Drop, Error)]
 pub enum CommitErr {

@@ -23,6 +23,6 @@ pub use change::{Built, Change};
 pub use commit_publish::Log;
 pub use commit_versions::OpenErr;
 pub use committing::commit;
-pub use errors::{AttemptErr, CommitErr, Committed, Other, Refusal};
+pub use errors::{AttemptErr, CommitErr, Committed, Other, Refusal, RemoveErr};
 pub use opening::{At, Metadata, open_table};
 pub use verdict::{one_commit, one_opening, stops_are_reopened};

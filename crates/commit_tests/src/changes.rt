@@ -4,7 +4,7 @@ ghost use Rattle.serde_json.specs.View.{view};
 ghost use Rattle.table_metadata.specs.Edits.{with_ref};
 ghost use Rattle.commit_tests.specs.Mains.{RefusesMain, sets_main};
 
-use commit_protocol::{AttemptErr, Built, Change, Log, Refusal};
+use commit_protocol::{AttemptErr, Built, Change, Log, Refusal, RemoveErr};
 use ice_store::{Ids, Manners, Place, Store, Text};
 use std::alloc::Global;
 use table_metadata::Meta;
@@ -31,6 +31,16 @@ impl<M: Manners> Change<M> for SetMain {
     ) -> Result<Built, AttemptErr> {
         let built = with_main(alloc, meta, self.id, now)?;
         Ok(Built::Next(built))
+    }
+
+    // it makes no file
+    fn lost<S: Store<M>>(
+        &self,
+        _store: &mut S,
+        _table: &Place,
+        _log: &mut Log,
+    ) -> Result<(), RemoveErr> {
+        Ok(())
     }
 }
 

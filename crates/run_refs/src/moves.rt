@@ -9,7 +9,7 @@ use crate::aims::aim;
 use crate::goal::{Goal, ref_name};
 use crate::look::ref_at;
 use crate::report::report_move;
-use commit_protocol::{AttemptErr, Built, Change, Log};
+use commit_protocol::{AttemptErr, Built, Change, Log, RemoveErr};
 use ice_store::{Ids, Manners, Place, Store, Text};
 use std::alloc::{AllocError, Global};
 use table_metadata::Meta;
@@ -78,6 +78,16 @@ impl<M: Manners> Change<M> for RefMove {
         self.previous = moved.previous;
         self.id = moved.id;
         Ok(moved.built)
+    }
+
+    // a move makes no file
+    fn lost<S: Store<M>>(
+        &self,
+        _store: &mut S,
+        _table: &Place,
+        _log: &mut Log,
+    ) -> Result<(), RemoveErr> {
+        Ok(())
     }
 }
 

@@ -72,7 +72,7 @@ move_plain table goal moment Seen given given' now result mark had has o a told 
     let meanings = moves_of goal moment Seen in
     let Drawn = Gives given given' in
     since_turned o a (CommitTells table Nobody meanings given given' now result mark had has) (λ old new. CommitLeaves table Nobody meanings Drawn now result old new × CommitWorks table Nobody meanings Drawn now result mark had has old new) told
-    (λ old new h. commit_plain table Nobody (alone table) (Moves goal moment) (IsThere goal) (RefusesMove goal) Seen (λ tree place no. absurd no) given given' now result mark had has old new h)
+    (λ old new h. commit_plain table Nobody (alone table) (Moves goal moment) (IsThere goal) (RefusesMove goal) Seen given given' now result mark had has old new h)
 
 -- What a commit tells where nobody else acts.
 
@@ -191,7 +191,10 @@ pub move_fault : (goal : Goal) (now : ℕ) (Seen : Data → Type 0) (Drawn : ℕ
     → (place : Parts) → (commit_end r).error ≡ Some (Attempt (attempts.Read (StoreFault place))) → IsPublishFault Drawn table place
 move_fault goal now Seen Drawn table r tells place is =
     let told = error_of r (Attempt (attempts.Read (StoreFault place))) is in
-    elim (tells place told) [ inl refused ↦ absurd refused.1 | inr at ↦ at ]
+    elim (tells place told) [
+      | inl refused ↦ absurd refused.1
+      | inr there ↦ elim there [ inl at ↦ at | inr made ↦ absurd made ]
+    ]
 
 module _ (word : ℕ) (table : Parts) (goal : Goal) (now : ℕ) (Drawn : ℕ → Type 0) (Seen : Data → Type 0) where
   abbrev pub task : Task

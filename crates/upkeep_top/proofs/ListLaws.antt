@@ -22,7 +22,8 @@ use Rattle.commit_protocol.specs.declared.errors.Refusal.TheVariants.{UnknownSna
 use Rattle.commit_protocol.specs.declared.errors.AttemptErr.TheVariants.{Refused, Read}
 use Rattle.commit_protocol.specs.declared.errors.CommitErr.{CommitErr}
 use Rattle.commit_protocol.specs.declared.errors.CommitErr.TheVariants.{Open, Attempt}
-use Rattle.commit_protocol.proofs.WorkLaws.{LooksBy, works_none}
+use Rattle.commit_protocol.specs.Meanings.{LooksBy}
+use Rattle.commit_protocol.proofs.WorkLaws.{works_none}
 use Rattle.run_answers.specs.declared.status.Status.{Status}
 use Rattle.run_refs.specs.Ancestors.{Lists}
 use Rattle.run_refs.specs.Procedures.{RefusesListing, list_procedure}

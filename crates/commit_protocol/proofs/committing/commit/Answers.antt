@@ -8,8 +8,9 @@ use Rattle.commit_publish.specs.Steps.{Anything}
 use Rattle.commit_versions.specs.Opening.{FileIs, OpenFaultAt}
 use Rattle.commit_protocol.specs.Ends.{WasOpened}
 use Rattle.commit_protocol.specs.Kinds.{commit_end, kind_of, commit_kind}
+use Rattle.commit_protocol.specs.Meanings.{LooksBy}
 use Rattle.commit_protocol.specs.Metadata.{IsAt, OpenErrLeaves, table_rules}
-use Rattle.commit_protocol.specs.Rounds.{AttemptTells, CommitTells}
+use Rattle.commit_protocol.specs.Rounds.{RoundTells, CommitTells}
 use Rattle.commit_protocol.specs.Verdicts.{IsCausedOf, IsExactlyOf}
 use Rattle.commit_protocol.specs.declared.errors.CommitErr.{CommitErr}
 use Rattle.commit_protocol.specs.declared.errors.CommitErr.TheVariants.{Open}
@@ -37,8 +38,8 @@ returns-in-Ok-clause-told g c =
     let has = c.attempt_on.new.log.left.items in
     let at = c.in-Ok.at in
     let p1 = g.S.Store.past c.open_table.new.store in
-    let then = subst (λ m. Since p1 p2 (AttemptTells t (g.M.Manners.allows m) meanings given last c.args.now at r mark had has)) c.in-Ok.ensures.manners c.attempt_on.ensures.told in
-    since_then p0 p1 p2 (IsAt t allows at) (AttemptTells t allows meanings given last c.args.now at r mark had has) (CommitTells t allows meanings given last c.args.now r mark had has)
+    let then = subst (λ m. Since p1 p2 (RoundTells t (g.M.Manners.allows m) meanings given last c.args.now at r mark had has)) c.in-Ok.ensures.manners c.attempt_on.ensures.told in
+    since_then p0 p1 p2 (IsAt t allows at) (RoundTells t allows meanings given last c.args.now at r mark had has) (CommitTells t allows meanings given last c.args.now r mark had has)
     c.in-Ok.ensures.told then
     (λ old mid new opened a. rounds.tells_by t allows meanings given last c.args.now at r mark had has old mid new c.attempt_on.ensures.unopened opened a)
 
@@ -55,7 +56,7 @@ returns-in-Err-clause-told g c =
     let r = Err (Open c.in-Err.e) in
     let e = c.in-Err.e in
     let before = g.S.Store.halted c.args.store.now in
-    since_turned p0 p2 (λ old new. OpenErrLeaves t allows e old new × works.LooksBy (Failing mark new) (commit_kind (Open e))) (CommitTells t allows meanings given given c.args.now r mark had had)
+    since_turned p0 p2 (λ old new. OpenErrLeaves t allows e old new × LooksBy (Failing mark new) (commit_kind (Open e))) (CommitTells t allows meanings given given c.args.now r mark had had)
     (works.looked (commit_kind (Open e)) before mark p0 p2 (OpenErrLeaves t allows e) c.in-Err.ensures.halted c.in-Err.ensures.told)
     (λ old new h. (h.0, refl, works.works_none meanings.successor (Gives given given) t c.args.now (WasOpened t allows old) (table_rules t allows) Anything (Some (Open e)) mark had had old new refl h.1 (open_err_idle t allows e old new h.0)))
 

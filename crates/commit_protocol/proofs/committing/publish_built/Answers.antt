@@ -1,4 +1,4 @@
-use Rattle.std.proofs.Common.{◌≡◌, inr, ◌+◌, ℕ, List, [], Some, Ok, Err, refl, sym, ap, ◌∙◌, subst, append-nil}
+use Rattle.std.proofs.Common.{◌≡◌, inl, inr, ◌+◌, ℕ, List, [], Some, Ok, Err, refl, sym, ap, ◌∙◌, subst, append-nil}
 use Rattle.ice_store.specs.Places.{Parts}
 use Rattle.ice_store.specs.Given.{Gives}
 use Rattle.ice_store.specs.Since.{Since}
@@ -14,6 +14,7 @@ use Rattle.commit_publish.specs.Steps.{Exactly}
 use Rattle.commit_versions.specs.Opening.{OpenStage}
 use Rattle.commit_protocol.specs.Ends.{DrawsBy, IsThat, LeavesBy, PublishedWorks}
 use Rattle.commit_protocol.specs.Kinds.{commit_kind}
+use Rattle.commit_protocol.specs.Meanings.{LooksBy}
 use Rattle.commit_protocol.specs.Metadata.{table_rules}
 use Rattle.commit_protocol.specs.Written.{commit_error_by}
 use Rattle.ice_store.specs.declared.faults.ReadErr.TheVariants.{StoreFault}
@@ -123,7 +124,7 @@ returns-in-Err-clause-works g c =
     let Run = Ran rules (Exactly []) K in
     let runs = since_start p0 K Run c.requires.start (λ old here. laws.stays t allows c.requires.mannered c.args.now Drawn K old here) in
     let marks = ends.unwritten_marks t base built c.args.now c.next-id.result e mark p0 c.in-Err.ensures.err in
-    since_turned p0 p0 (λ old new. Run old new × works.LooksBy (Failing mark new) (commit_kind (Attempt e))) (PublishedWorks t Drawn c.args.now base built (Err (Attempt e)) mark had had)
+    since_turned p0 p0 (λ old new. Run old new × LooksBy (Failing mark new) (commit_kind (Attempt e))) (PublishedWorks t Drawn c.args.now base built (Err (Attempt e)) mark had had)
     (works.looked (commit_kind (Attempt e)) mark mark p0 p0 Run marks runs)
     (λ old new h. λ at on limit. works.works_none (λ tree next. next ≡ built) Drawn t c.args.now (IsThat at) rules K (Some (Attempt e)) mark had had old new refl h.1 h.0)
 
@@ -283,4 +284,4 @@ returns-in-Err-publish_version-clause-fault_place g c place is =
     let v = c.args.base.version + 1 in
     let told : ◌≡◌ {A = CommitErr} c.commit_error.result (Attempt (attempts.Read (StoreFault place))) = cc (is) in
     let error : c.commit_error.result ≡ commit_error_by e w.route.draft t v = c.commit_error.ensures ∙ ap (λ (x : Parts). commit_error_by e w.route.draft x v) written.table_is in
-    inr (ends.publish_place w.route.draft t v (Gives (g.I.Ids.given c.args.ids.now) (g.I.Ids.given c.next-id.new.self)) c.next-id.result c.next-id.ensures written.draft_is place e (sym error ∙ told))
+    inr (inl (ends.publish_place w.route.draft t v (Gives (g.I.Ids.given c.args.ids.now) (g.I.Ids.given c.next-id.new.self)) c.next-id.result c.next-id.ensures written.draft_is place e (sym error ∙ told)))

@@ -14,7 +14,8 @@ use Rattle.commit_protocol.specs.declared.errors.AttemptErr.TheVariants.{Refused
 use Rattle.commit_protocol.specs.declared.errors.CommitErr.{CommitErr}
 use Rattle.commit_protocol.specs.declared.errors.CommitErr.TheVariants.{Open, Attempt}
 use Rattle.commit_protocol.proofs.EndLaws.{leaves_of_open, marks_of_open}
-use Rattle.commit_protocol.proofs.WorkLaws.{LooksBy, looked}
+use Rattle.commit_protocol.specs.Meanings.{LooksBy}
+use Rattle.commit_protocol.proofs.WorkLaws.{looked}
 use Rattle.run_refs.specs.Procedures.{list_procedure}
 use Rattle.upkeep_top.specs.Points.{at, moment, noted, tells}
 use Rattle.upkeep_top.specs.Statements.{Ends, Did, ReportedBy}
