@@ -1,5 +1,6 @@
 -- Laws of what a commit tells: the change is asked, and what it built is published.
 use Rattle.std.proofs.Common.{◌≡◌, inl, inr, ℕ, Bool, true, false, List, [], ◌∷◌, ◌++◌, take, drop, length, Option, Some, None, Result, Ok, Err, refl, sym, ap, ◌∙◌, subst, append_assoc, append-nil}
+use Rattle.std.specs.Prelude.{IfErr}
 use Rattle.std.proofs.lemmas.List.{append_cancel_left, append_cancel_right}
 use Rattle.serde_json.specs.Data.{Data}
 use Rattle.serde_json.specs.View.{view}
@@ -24,7 +25,7 @@ use Rattle.commit_history.proofs.Running.{begins, ran_turned}
 use Rattle.ice_store.specs.declared.history.StoreCall.{StoreCall}
 use Rattle.commit_protocol.specs.Attempts.{TellsLimit}
 use Rattle.commit_protocol.specs.Ends.{AddsPlaces, DrawsAlso, DrawsBy, DrawsOf, DrawsOne, IsDraft, IsDraftOrBoth, IsPublishFault, LeavesAtError, LeavesBy, LeavesOf, LeavesPublished, may_be_unasked, may_draw}
-use Rattle.commit_protocol.specs.Kinds.{attempt_kind, commit_end, kind_of}
+use Rattle.commit_protocol.specs.Kinds.{attempt_kind, attempted_kind, commit_end, kind_of}
 use Rattle.commit_protocol.specs.Meanings.{LooksBy, Meanings, looking}
 use Rattle.commit_protocol.specs.Prepares.{GivesAll, GivesLast, MoreBy, Prepared, Prepares}
 use Rattle.commit_protocol.specs.Withdraws.{LeavesUnmade, MadeNone, WithdrawStage, Withdrawn, Withdraws, lost_answer, lost_version, withdraw_kind}
@@ -196,6 +197,11 @@ looks_plainly (attempts.Read (Damaged place at)) plain Fails = tt
 looks_plainly (attempts.Read (Unsupported place what)) plain Fails = tt
 looks_plainly (attempts.Read (StoreFault place)) plain Fails = absurd (plain place refl)
 looks_plainly (attempts.Read Memory) plain Fails = tt
+
+-- so of an answer, which refuses so where it does
+pub looks_by : {T : Type 0} (R : AttemptErr → Type 0) → ((place : Parts) → R (attempts.Read (StoreFault place)) → ⊥) → (r : Result T AttemptErr) → IfErr r R → (Fails : StoreCall → Type 0) → LooksBy Fails (attempted_kind r)
+looks_by R plain (Ok x) refused Fails = tt
+looks_by R plain (Err e) refused Fails = looks_plainly e (λ place is. plain place (subst R is refused)) Fails
 
 -- what is nothing is met
 pub met_nothing : (o : Option Past) → Since o o (λ old new. Unit {0})

@@ -4,7 +4,7 @@ use Rattle.serde_json.specs.Data.{Data}
 use Rattle.serde_json.specs.View.{view}
 use Rattle.table_metadata.specs.Edits.{with_ref}
 use Rattle.commit_protocol.specs.Attempts.{StaysTable}
-use Rattle.commit_protocol.proofs.RoundLaws.{met_nothing, told_nothing}
+use Rattle.commit_protocol.proofs.RoundLaws.{looks_by, met_nothing, told_nothing}
 use Rattle.commit_tests.specs.Mains.{HasMain, RefusesMain}
 use Rattle.commit_tests.proofs.MainLaws.{stays_table}
 use Rattle.commit_tests.proofs.changes.SetMainChange.attempt.Goals as goal
@@ -12,12 +12,12 @@ use Rattle.commit_tests.proofs.changes.SetMainChange.attempt.Goals as goal
 pub returns-in_err-built-clause-told : goal.returns-in_err-built-clause-told
 returns-in_err-built-clause-told g c =
     let id = c.args.self.now.id in
-    told_nothing c.args._table.now (g.M.Manners.allows (g.S.Store.manners c.args._store.now)) (HasMain id) (λ tree. ⊥) (RefusesMain id) _ _ _ c.args._base.now (g.S.Store.halted c.args._store.now) (g.S.Store.past c.args._store.now) c.requires.start
+    told_nothing c.args._table.now (g.M.Manners.allows (g.S.Store.manners c.args._store.now)) (HasMain id) (λ tree. ⊥) (RefusesMain id) _ _ _ c.args._base.now (g.S.Store.halted c.args._store.now) (g.S.Store.past c.args._store.now) (looks_by (RefusesMain id (view c.args.meta)) (λ place no. no) c.from_residual.result (search rules)) c.requires.start
 
 pub returns-clause-told : goal.returns-clause-told
 returns-clause-told g c =
     let id = c.args.self.now.id in
-    told_nothing c.args._table.now (g.M.Manners.allows (g.S.Store.manners c.args._store.now)) (HasMain id) (λ tree. ⊥) (RefusesMain id) _ _ _ c.args._base.now (g.S.Store.halted c.args._store.now) (g.S.Store.past c.args._store.now) c.requires.start
+    told_nothing c.args._table.now (g.M.Manners.allows (g.S.Store.manners c.args._store.now)) (HasMain id) (λ tree. ⊥) (RefusesMain id) _ _ _ c.args._base.now (g.S.Store.halted c.args._store.now) (g.S.Store.past c.args._store.now) (λ Fails. tt) c.requires.start
 
 pub returns-in_err-built-clause-met : goal.returns-in_err-built-clause-met
 returns-in_err-built-clause-met g c = met_nothing (g.S.Store.past c.args._store.now)

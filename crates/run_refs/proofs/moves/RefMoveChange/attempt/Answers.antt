@@ -1,17 +1,18 @@
-use Rattle.std.proofs.Common.{sym, append-nil}
-use Rattle.commit_protocol.proofs.RoundLaws.{met_nothing, told_nothing}
+use Rattle.std.proofs.Common.{sym, append-nil, rules}
+use Rattle.serde_json.specs.View.{view}
+use Rattle.commit_protocol.proofs.RoundLaws.{looks_by, met_nothing, told_nothing}
 use Rattle.run_refs.specs.Moves.{HasSeen, IsThere, Moves, RefusesMove}
 use Rattle.run_refs.proofs.moves.RefMoveChange.attempt.Goals as goal
 
 pub returns-in_err-moved-clause-told : goal.returns-in_err-moved-clause-told
 returns-in_err-moved-clause-told g c =
     let r = c.args.self.now in
-    told_nothing c.args._table.now (g.M.Manners.allows (g.S.Store.manners c.args._store.now)) (Moves r.goal r.now) (IsThere r.goal) (RefusesMove r.goal) _ _ _ c.args._base.now (g.S.Store.halted c.args._store.now) (g.S.Store.past c.args._store.now) c.requires.start
+    told_nothing c.args._table.now (g.M.Manners.allows (g.S.Store.manners c.args._store.now)) (Moves r.goal r.now) (IsThere r.goal) (RefusesMove r.goal) _ _ _ c.args._base.now (g.S.Store.halted c.args._store.now) (g.S.Store.past c.args._store.now) (looks_by (RefusesMove r.goal (view c.args.meta)) (λ place no. no) c.from_residual.result (search rules)) c.requires.start
 
 pub returns-clause-told : goal.returns-clause-told
 returns-clause-told g c =
     let r = c.args.self.now in
-    told_nothing c.args._table.now (g.M.Manners.allows (g.S.Store.manners c.args._store.now)) (Moves r.goal r.now) (IsThere r.goal) (RefusesMove r.goal) _ _ _ c.args._base.now (g.S.Store.halted c.args._store.now) (g.S.Store.past c.args._store.now) c.requires.start
+    told_nothing c.args._table.now (g.M.Manners.allows (g.S.Store.manners c.args._store.now)) (Moves r.goal r.now) (IsThere r.goal) (RefusesMove r.goal) _ _ _ c.args._base.now (g.S.Store.halted c.args._store.now) (g.S.Store.past c.args._store.now) (λ Fails. tt) c.requires.start
 
 pub returns-in_err-moved-clause-met : goal.returns-in_err-moved-clause-met
 returns-in_err-moved-clause-met g c = met_nothing (g.S.Store.past c.args._store.now)
