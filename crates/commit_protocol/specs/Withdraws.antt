@@ -74,8 +74,8 @@ abbrev pub TellsWithdraw : List Parts → Parts → Result (Unit {0}) RemoveErr 
 TellsWithdraw made table result = (place : Parts) → result ≡ Err (StoreFault place) → (place ≡ table) ⊎ IsMadeAt made place
 
 -- a log has these files at its end
-abbrev pub IsBehind : List Parts → List Parts → Type 0
-IsBehind made had = (others : List Parts) × (had ≡ others ++ made)
+abbrev pub EndsInMade : List Parts → List Parts → Type 0
+EndsInMade made had = (others : List Parts) × (had ≡ others ++ made)
 
 -- a log's places once they are removed, or some of them
 abbrev pub LeavesUnmade : List Parts → Result (Unit {0}) RemoveErr → List Parts → List Parts → Type 0

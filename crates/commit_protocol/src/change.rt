@@ -16,7 +16,7 @@ ghost use Rattle.ice_store.specs.Places.{place_in};
 ghost use Rattle.commit_protocol.specs.Attempts.{MakesOf};
 ghost use Rattle.commit_protocol.specs.Kinds.{attempted_kind};
 ghost use Rattle.commit_protocol.specs.Prepares.{GivesAll, Prepares};
-ghost use Rattle.commit_protocol.specs.Withdraws.{IsBehind, LeavesUnmade, TellsWithdraw, Withdrawing, withdraw_kind};
+ghost use Rattle.commit_protocol.specs.Withdraws.{EndsInMade, LeavesUnmade, TellsWithdraw, Withdrawing, withdraw_kind};
 ghost use Rattle.commit_protocol.specs.declared.errors.AttemptErr.{AttemptErr as Refused};
 
 use crate::errors::{AttemptErr, RemoveErr};
@@ -93,7 +93,7 @@ pub trait Change<M: Manners> {
     ) -> Result<(), RemoveErr>
         requires mannered { IsMannered (table_rules table.now (M.allows (S.manners store.old))) }
         requires rest { WhereTold (S.past store.old) (InState (λ d. AtRest d.pending)) }
-        requires noted { IsBehind (meanings self.now self.now).made log.old.left.items }
+        requires noted { EndsInMade (meanings self.now self.now).made log.old.left.items }
         ensures told { Withdrawing S.past store.old store.new table.now (M.allows (S.manners store.old)) (meanings self.now self.now).made (S.halted store.new) result log.old.left.items log.new.left.items }
         ensures still { (meanings self.now self.now).made ≡ [] → S.past store.new ≡ S.past store.old }
         ensures none { (meanings self.now self.now).made ≡ [] → result ≡ Ok tt }
