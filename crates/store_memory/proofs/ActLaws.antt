@@ -31,8 +31,8 @@ one_more allows old here new steps all i t u s c lt is copied added later_t so_f
       acted = subst (λ p. Acted allows old p) (sym there) (acted_then allows old here done so_far.acted (one_acted allows here s t rest.1));
       rest = subst (λ (n : ℕ). Allowed allows new (by_them n left)) (sym later_t) (subst (λ p. Allowed allows p (by_them (next_moment t) left)) (sym there) rest.2);
       ends = ap (λ (p : Past). later p (by_them u left)) there
-        ∙ ap (λ (n : ℕ). later done (by_them n left)) later_t
-        ∙ later-later here (theirs s t ∷ []) (by_them (next_moment t) left)
-        ∙ ap (λ (l : List Step). later here (by_them t l)) (sym split)
-        ∙ so_far.ends;
+          ∙ ap (λ (n : ℕ). later done (by_them n left)) later_t
+          ∙ later-later here (theirs s t ∷ []) (by_them (next_moment t) left)
+          ∙ ap (λ (l : List Step). later here (by_them t l)) (sym split)
+          ∙ so_far.ends;
     }

@@ -1,6 +1,5 @@
 use Rattle.std.proofs.Common.{rules}
 use Rattle.store_memory.proofs.ActLaws.{one_more}
-use Rattle.store_memory.proofs.AskedLaws.{asked_all}
 use Rattle.store_memory.proofs.MomentLaws.{timed_one, timed_then}
 use Rattle.store_memory.proofs.store.others_act.Goals as goal
 
