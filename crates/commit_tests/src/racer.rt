@@ -1,5 +1,5 @@
 //! Another writer of a table, who publishes the next version before one call of the store.
-ghost use Rattle.std.specs.Prelude.{◌≡◌, ℕ, ◌+◌, max, List, [], Option, Some, None, IfOk, IfSome, IsTrue, if◌then◌else◌, nat_eq};
+ghost use Rattle.std.specs.Prelude.{◌≡◌, ℕ, ◌+◌, max, List, Option, None, IfOk, IfSome, IsTrue};
 ghost use Rattle.ice_store.specs.History.{replay};
 ghost use Rattle.ice_store.specs.Others.{Allowed};
 ghost use Rattle.ice_store.specs.Places.{Parts};
@@ -36,8 +36,7 @@ pub(crate) struct Racer {
 impl Neighbour<Writers> for Racer {
     ghost manners = { λ r. r.writers };
 
-    // it tells nothing of its turn, and does nothing before any other call
-    ghost does = { λ r _. if nat_eq r.calls r.turn then None else Some [] };
+    ghost does = { λ _ _. None };
 
     fn act(
         &mut self,
