@@ -1,10 +1,9 @@
--- The steps of a neighbour that was asked, and events of ours behind them.
+-- Events of ours behind the steps of a neighbour that was asked.
 use Rattle.std.proofs.Common.{◌≡◌, inl, inr, ℕ, List, [], ◌∷◌, ◌++◌, Option, Some, None, Ok, Err, Result, refl, sym, ap, ◌∙◌, subst}
 use Rattle.ice_store.specs.Calls.{StepAnswer}
 use Rattle.ice_store.specs.History.{later}
-use Rattle.ice_store.specs.Others.{IsOurs, WhereTold}
+use Rattle.ice_store.specs.Others.{IsOurs}
 use Rattle.ice_store.proofs.HistoryLaws.{later-later}
-use Rattle.ice_store.proofs.OthersLaws.{later-nil}
 use Rattle.ice_store.specs.declared.history.Event.{Event}
 use Rattle.ice_store.specs.declared.history.Past.{Past}
 use Rattle.ice_store.specs.declared.history.Step.{Step}
@@ -12,18 +11,6 @@ use Rattle.ice_store.specs.declared.store.StoreErr.{StoreErr}
 use Rattle.ice_store.specs.declared.store.StoreErr.TheVariants.{Failed, Memory}
 use Rattle.store_memory.specs.Neighbours.{by_them, AreOurs, Asked, UnlessMemory}
 use Rattle.store_memory.specs.Took.{Took}
-
--- The steps that were given are the ones that are told.
-
-pub asked_all : (told : Option (List Step)) (steps : List Step) (ms : ℕ) (old new : Past) → WhereTold told (λ all. steps ≡ all) → new ≡ later old (by_them ms steps) → Asked told ms old new
-asked_all None steps ms old new given is = tt
-asked_all (Some all) steps ms old new given is = record {
-  ours = [];
-  are_ours = tt;
-  is = is ∙ ap (λ (l : List Step). later old (by_them ms l)) given ∙ sym (later-nil (later old (by_them ms all)));
-}
-
--- Events of ours behind.
 
 AreOurs-append : (es fs : List Event) → AreOurs es → AreOurs fs → AreOurs (es ++ fs)
 AreOurs-append [] fs h k = k
