@@ -1,5 +1,5 @@
 //! Another writer of a table, who publishes the next version before one call of the store.
-ghost use Rattle.std.specs.Prelude.{◌≡◌, ℕ, ◌+◌, max, List, Option, IfOk, IfSome, IsTrue};
+ghost use Rattle.std.specs.Prelude.{◌≡◌, ℕ, ◌+◌, max, List, Option, None, IfOk, IfSome, IsTrue};
 ghost use Rattle.ice_store.specs.History.{replay};
 ghost use Rattle.ice_store.specs.Others.{Allowed};
 ghost use Rattle.ice_store.specs.Places.{Parts};
@@ -35,6 +35,8 @@ pub(crate) struct Racer {
 
 impl Neighbour<Writers> for Racer {
     ghost manners = { λ r. r.writers };
+
+    ghost does = { λ _ _. None };
 
     fn act(
         &mut self,

@@ -4,3 +4,4 @@ pub mod IndexLaws
 pub mod SlotLaws
 pub mod SlotSteps
 pub mod MomentLaws
+pub mod AskedLaws

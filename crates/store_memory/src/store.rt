@@ -4,7 +4,7 @@ ghost use Rattle.ice_store.specs.History.{replay, image};
 ghost use Rattle.ice_store.specs.Others.{Acted, Answers, IsOurs};
 ghost use Rattle.ice_store.specs.Calls.{StepAnswer, HasCause, MarksFailure, Rose, failure_of, CreateAnswer, AppendAnswer, PlainAnswer, RenameAnswer, RemoveAnswer, SizeAnswer, NamesAnswer, ReadAnswer};
 ghost use Rattle.ice_store.specs.declared.store.StoreErr.TheVariants.{Failed};
-ghost use Rattle.store_memory.specs.Neighbours.{next_moment};
+ghost use Rattle.store_memory.specs.Neighbours.{next_moment, Asked, UnlessMemory};
 ghost use Rattle.store_memory.specs.Took.{Took};
 ghost use Rattle.store_memory.specs.Torn.{torn_at};
 ghost use Rattle.store_memory.specs.Failing.{fail_at, AsPlanned, takes_step, IsStepOrNone, IfFailed, FailedCreate, FailedRename, FailedRemove, FailedStep};
@@ -124,6 +124,7 @@ fn others_act<M: Manners, N: Neighbour<M>>(
     ensures acted { Acted (M.allows (N.manners neighbour.old)) history.old history.new }
     ensures manners { N.manners neighbour.new ≡ N.manners neighbour.old }
     ensures moments { Timed history.old history.new next_ms.old next_ms.new }
+    ensures asked { IfOk result (λ _. Asked (N.does neighbour.old history.old) next_ms.old history.old history.new) }
 {
     let steps = neighbour.act(alloc, history, *next_ms)?;
     for step in steps.inner() {
@@ -160,6 +161,7 @@ fn begin<M: Manners, N: Neighbour<M>>(store: &mut MemStore<N>) -> Result<Option<
     ensures fails { store.new.fails ≡ store.old.fails }
     ensures calls { store.new.calls ≡ next_moment store.old.calls }
     ensures moments { Timed store.old.history store.new.history store.old.next_ms store.new.next_ms }
+    ensures asked { IfOk result (λ _. Asked (N.does store.old.neighbour store.old.history) store.old.next_ms store.old.history store.new.history) }
     ensures faults { store.new.faults ≡ store.old.faults }
     ensures halted { store.new.halted ≡ store.old.halted }
 {
@@ -187,6 +189,7 @@ fn begin_reading<M: Manners, N: Neighbour<M>>(
     ensures fails { store.new.fails ≡ store.old.fails }
     ensures calls { store.new.calls ≡ next_moment store.old.calls }
     ensures moments { Timed store.old.history store.new.history store.old.next_ms store.new.next_ms }
+    ensures asked { UnlessMemory result (Asked (N.does store.old.neighbour store.old.history) store.old.next_ms store.old.history store.new.history) }
 {
     if begin::<M, N>(store)?.is_none() {
         return Ok(());
@@ -280,6 +283,7 @@ impl<M: Manners, N: Neighbour<M>> Store<M> for MemStore<N> {
         ensures halted { MarksFailure (StoreCall.Look dir.now) self.old.halted self.new.halted (Some self.new.history) result }
         ensures planned { AsPlanned (fail_at self.old.fails self.old.calls) result }
         ensures moments { Timed self.old.history self.new.history self.old.next_ms self.new.next_ms }
+        ensures asked { UnlessMemory result (Asked (N.does self.old.neighbour self.old.history) self.old.next_ms self.old.history self.new.history) }
         ensures calls { self.new.calls ≡ next_moment self.old.calls }
         ensures fails { self.new.fails ≡ self.old.fails }
     {
@@ -294,6 +298,7 @@ impl<M: Manners, N: Neighbour<M>> Store<M> for MemStore<N> {
         ensures halted { MarksFailure (StoreCall.Look place.now) self.old.halted self.new.halted (Some self.new.history) result }
         ensures planned { AsPlanned (fail_at self.old.fails self.old.calls) result }
         ensures moments { Timed self.old.history self.new.history self.old.next_ms self.new.next_ms }
+        ensures asked { UnlessMemory result (Asked (N.does self.old.neighbour self.old.history) self.old.next_ms self.old.history self.new.history) }
         ensures calls { self.new.calls ≡ next_moment self.old.calls }
         ensures fails { self.new.fails ≡ self.old.fails }
     {
@@ -311,6 +316,7 @@ impl<M: Manners, N: Neighbour<M>> Store<M> for MemStore<N> {
         ensures halted { MarksFailure (StoreCall.Look place.now) self.old.halted self.new.halted (Some self.new.history) result }
         ensures planned { AsPlanned (fail_at self.old.fails self.old.calls) result }
         ensures moments { Timed self.old.history self.new.history self.old.next_ms self.new.next_ms }
+        ensures asked { UnlessMemory result (Asked (N.does self.old.neighbour self.old.history) self.old.next_ms self.old.history self.new.history) }
         ensures calls { self.new.calls ≡ next_moment self.old.calls }
         ensures fails { self.new.fails ≡ self.old.fails }
     {
@@ -329,6 +335,7 @@ impl<M: Manners, N: Neighbour<M>> Store<M> for MemStore<N> {
         ensures planned { AsPlanned (fail_at self.old.fails self.old.calls) result }
         ensures took_as_planned { IfFailed result (M.allows (N.manners self.old.neighbour)) self.old.history self.new.history (FailedCreate (fail_at self.old.fails self.old.calls) place.now) }
         ensures moments { Timed self.old.history self.new.history self.old.next_ms self.new.next_ms }
+        ensures asked { UnlessMemory result (Asked (N.does self.old.neighbour self.old.history) self.old.next_ms self.old.history self.new.history) }
         ensures calls { self.new.calls ≡ next_moment self.old.calls }
         ensures fails { self.new.fails ≡ self.old.fails }
     {
@@ -354,6 +361,7 @@ impl<M: Manners, N: Neighbour<M>> Store<M> for MemStore<N> {
         ensures planned { AsPlanned (fail_at self.old.fails self.old.calls) result }
         ensures took_as_planned { IfFailed result (M.allows (N.manners self.old.neighbour)) self.old.history self.new.history (FailedStep (fail_at self.old.fails self.old.calls) (Step.Append place.now bytes.now)) }
         ensures moments { Timed self.old.history self.new.history self.old.next_ms self.new.next_ms }
+        ensures asked { UnlessMemory result (Asked (N.does self.old.neighbour self.old.history) self.old.next_ms self.old.history self.new.history) }
         ensures calls { self.new.calls ≡ next_moment self.old.calls }
         ensures fails { self.new.fails ≡ self.old.fails }
     {
@@ -370,6 +378,7 @@ impl<M: Manners, N: Neighbour<M>> Store<M> for MemStore<N> {
         ensures planned { AsPlanned (fail_at self.old.fails self.old.calls) result }
         ensures took_as_planned { IfFailed result (M.allows (N.manners self.old.neighbour)) self.old.history self.new.history (FailedStep (fail_at self.old.fails self.old.calls) (Step.Seal place.now)) }
         ensures moments { Timed self.old.history self.new.history self.old.next_ms self.new.next_ms }
+        ensures asked { UnlessMemory result (Asked (N.does self.old.neighbour self.old.history) self.old.next_ms self.old.history self.new.history) }
         ensures calls { self.new.calls ≡ next_moment self.old.calls }
         ensures fails { self.new.fails ≡ self.old.fails }
     {
@@ -385,6 +394,7 @@ impl<M: Manners, N: Neighbour<M>> Store<M> for MemStore<N> {
         ensures planned { AsPlanned (fail_at self.old.fails self.old.calls) result }
         ensures took_as_planned { IfFailed result (M.allows (N.manners self.old.neighbour)) self.old.history self.new.history (FailedRename (fail_at self.old.fails self.old.calls) from.now to.now) }
         ensures moments { Timed self.old.history self.new.history self.old.next_ms self.new.next_ms }
+        ensures asked { UnlessMemory result (Asked (N.does self.old.neighbour self.old.history) self.old.next_ms self.old.history self.new.history) }
         ensures calls { self.new.calls ≡ next_moment self.old.calls }
         ensures fails { self.new.fails ≡ self.old.fails }
     {
@@ -410,6 +420,7 @@ impl<M: Manners, N: Neighbour<M>> Store<M> for MemStore<N> {
         ensures planned { AsPlanned (fail_at self.old.fails self.old.calls) result }
         ensures took_as_planned { IfFailed result (M.allows (N.manners self.old.neighbour)) self.old.history self.new.history (FailedRemove (fail_at self.old.fails self.old.calls) place.now) }
         ensures moments { Timed self.old.history self.new.history self.old.next_ms self.new.next_ms }
+        ensures asked { UnlessMemory result (Asked (N.does self.old.neighbour self.old.history) self.old.next_ms self.old.history self.new.history) }
         ensures calls { self.new.calls ≡ next_moment self.old.calls }
         ensures fails { self.new.fails ≡ self.old.fails }
     {
@@ -435,6 +446,7 @@ impl<M: Manners, N: Neighbour<M>> Store<M> for MemStore<N> {
         ensures planned { AsPlanned (fail_at self.old.fails self.old.calls) result }
         ensures took_as_planned { IfFailed result (M.allows (N.manners self.old.neighbour)) self.old.history self.new.history (FailedStep (fail_at self.old.fails self.old.calls) Step.SyncNames) }
         ensures moments { Timed self.old.history self.new.history self.old.next_ms self.new.next_ms }
+        ensures asked { UnlessMemory result (Asked (N.does self.old.neighbour self.old.history) self.old.next_ms self.old.history self.new.history) }
         ensures calls { self.new.calls ≡ next_moment self.old.calls }
         ensures fails { self.new.fails ≡ self.old.fails }
     {

@@ -1,4 +1,4 @@
-use Rattle.std.proofs.Common.{◌≡◌, ◌∙◌, ℕ, List, Some, None, ap, sym, option_map, slice_set, rules}
+use Rattle.std.proofs.Common.{◌≡◌, ◌∙◌, ℕ, List, Some, ap, sym, option_map, slice_set, rules}
 use Rattle.ice_store.specs.History.{appended}
 use Rattle.store_memory.proofs.SlotSteps.{set_changed, past_changed, none_of}
 use Rattle.store_memory.proofs.files.append_at.Goals as goal

@@ -1,4 +1,4 @@
-use Rattle.std.proofs.Common.{◌≡◌, ◌∙◌, Some, None, ap, sym, option_map, slice_set, rules}
+use Rattle.std.proofs.Common.{◌≡◌, ◌∙◌, Some, ap, sym, option_map, slice_set, rules}
 use Rattle.ice_store.specs.History.{sealed}
 use Rattle.store_memory.proofs.SlotSteps.{set_changed, past_changed, none_of}
 use Rattle.store_memory.proofs.files.seal_at.Goals as goal
