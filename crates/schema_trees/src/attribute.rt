@@ -1,11 +1,11 @@
 // Members of a JSON object that must be there.
 ghost use Rattle.std.specs.Prelude.{◌≡◌};
 ghost use Rattle.serde_json.specs.View.{view};
-ghost use Rattle.schema_trees.specs.Ids.{is_seen};
 ghost use Rattle.schema_trees.specs.Reading.{Gives, Reads, int_in, text_in, new_id};
 ghost use Rattle.schema_trees.specs.TypeReading.{flag_in};
 
 use crate::fault::JsonErr;
+use crate::met::MetIds;
 use crate::path::fault_at;
 use avro_schema::{Text, id_at, text_at};
 use serde_json::Value;
@@ -43,13 +43,6 @@ pub(crate) fn flag_in(alloc: Global, tree: &Value, path: &str, key: &str) -> Res
     }
 }
 
-#[tactic(auto, unfolding(crate::specs::Ids::is_seen))]
-fn is_seen(id: i32, seen: &[i32]) -> bool
-    ensures { result ≡ is_seen id seen.now }
-{
-    seen.iter().any(|other| *other == id)
-}
-
 /// An id that none before it is.
 #[tactic(auto, unfolding(crate::specs::Reading::new_id))]
 pub(crate) fn new_id(
@@ -57,14 +50,14 @@ pub(crate) fn new_id(
     tree: &Value,
     path: &str,
     key: &str,
-    seen: &mut Vec<i32>,
+    seen: &mut MetIds,
 ) -> Result<i32, JsonErr>
-    ensures { Reads result seen.new.items (new_id path.now key.now (view tree.now) seen.old.items) }
+    ensures { Reads result seen.new (new_id path.now key.now (view tree.now) seen.old) }
 {
     let id = int_in(alloc, tree, path, key)?;
-    if is_seen(id, seen.as_slice()) {
+    if seen.contains(id) {
         return Err(fault_at(alloc, path, key));
     }
-    seen.push(id)?;
+    seen.add(id)?;
     Ok(id)
 }

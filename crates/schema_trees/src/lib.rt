@@ -4,6 +4,7 @@
 mod attribute;
 mod calls;
 mod fault;
+mod met;
 mod nesting;
 mod path;
 mod schema_reading;
