@@ -17,8 +17,11 @@ use std::alloc::{AllocError, Global};
 
 /// The schema that a JSON tree spells (Iceberg table specification, Appendix C, "Schemas").
 ///
-/// `Bad` has the path of the first fault: an object's `type` comes first, then its members in byte order of their keys.
-/// Of two equal ids of columns, elements, keys and values the later one is at fault. Other members count for nothing.
+/// `Bad` has the path of the first fault. The members of an object are tried in byte order of their keys, each with what
+/// lies within it, and the items of an array in their order: so the root's `type` is tried last. But in an object that
+/// is the type of a column, element, key or value its `type` is tried first, since it says which members there are.
+/// In this order, of two equal ids of columns, elements, keys and values the later one is at fault, and a type that lies
+/// within 128 others is. Other members count for nothing.
 pub fn read_schema(alloc: Global, tree: &Value) -> Result<Schema, JsonErr>
     // What is read is spelled so.
     ensures found { IfOk result (SpellsSchema (view tree.now)) }
