@@ -1,7 +1,8 @@
-ghost use Rattle.std.specs.Prelude.{◌≡◌, IfOk, Ok};
+ghost use Rattle.std.specs.Prelude.{◌≡◌, IfOk, Ok, true};
 ghost use Rattle.serde_json.specs.View.{view};
 ghost use Rattle.schema_types.specs.declared.types.Schema.{Schema};
 ghost use Rattle.schema_types.specs.declared.types.Spec.{Spec};
+ghost use Rattle.schema_types.specs.Known.{has_known_transforms};
 ghost use Rattle.schema_trees.specs.Reading.{Gives, spec_of};
 ghost use Rattle.schema_trees.specs.Spelling.{SpellsSpec, SpellsNoSpec, OnFault};
 ghost use Rattle.schema_trees.specs.TypeReading.{schema_of};
@@ -52,9 +53,11 @@ pub fn read_spec(alloc: Global, tree: &Value) -> Result<Spec, JsonErr>
     spec_reading::read(alloc, tree)
 }
 
-/// The JSON tree that is written for a partition spec: an object with the members of the Rust type alone. A transform
-/// that isn't known is written `unknown`.
+/// The JSON tree that is written for a partition spec: an object with the members of the Rust type alone.
+///
+/// An unknown transform has no spelling. Whether the spec has one, `Spec::has_known_transforms` tells.
 pub fn spec_tree(alloc: Global, spec: &Spec) -> Result<Value, AllocError>
+    requires known { has_known_transforms spec.now ≡ true }
     ensures written { IfOk result (λ v. view v ≡ written_spec spec.now) }
     // It is one of the spellings of a spec such as is read.
     ensures spelled { IfOk result (λ v. IsSpec spec.now → SpellsSpec (view v) spec.now) }

@@ -11,8 +11,6 @@ mod schema_reading;
 mod schema_writing;
 mod spec_reading;
 mod spec_writing;
-#[cfg(test)]
-mod tests;
 mod type_words;
 mod words;
 
