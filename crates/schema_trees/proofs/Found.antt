@@ -1,13 +1,12 @@
 -- What is read is spelled so.
-use Rattle.std.proofs.Common.{◌≡◌, ℕ, ℤ, suc, ◌++◌, List, [], ◌∷◌, codes, Result, Ok, Err, refl, sym, ap, ◌∙◌, subst, append_assoc, Option, Some, None, is_some, option_and_then, cond, Bool, true, false}
-use Rattle.std.proofs.lemmas.List.{append-nil}
+use Rattle.std.proofs.Common.{◌≡◌, ℕ, ℤ, suc, ◌++◌, List, [], ◌∷◌, codes, Result, Ok, Err, refl, sym, ap, ◌∙◌, subst, Option, Some, None, is_some, option_and_then, cond, Bool, true, false}
 use Rattle.serde_json.specs.Data.{Data, Items, no_items, item}
 use Rattle.serde_json.specs.Find.{get, as_array, as_object}
 use Rattle.avro_schema.specs.Attribute.{text_at, id_at}
 use Rattle.avro_schema.specs.Path.{key_path, index_path}
 use Rattle.schema_types.specs.declared.types.SpecField.{SpecField}
 use Rattle.schema_types.specs.declared.types.Spec.{Spec}
-use Rattle.schema_trees.specs.Ids.{is_seen, AreNew}
+use Rattle.schema_trees.specs.Ids.{is_seen, with_id, AreNew}
 use Rattle.schema_trees.specs.Reading.{Fault, Read, Reader, ◌>>=◌, wanted, in_object, int_in, text_in, new_id, with_first, each, field_at, spec_of}
 use Rattle.schema_trees.specs.Spelling.{SpellsEach, SpellsField, field_ids, SpellsSpec}
 use Rattle.schema_trees.specs.Words.{transform_of}
@@ -38,23 +37,32 @@ object_ok {A} path d r x e = go (is_some (as_object d)) e
 
 -- an id was read that none before it is
 pub new_found : (path key : List ℕ) (d : Data) (seen : List ℤ) (id : ℤ) (after : List ℤ) → new_id path key d seen ≡ Ok (id, after)
-    → (id_at key d ≡ Some id) × (is_seen id seen ≡ false) × (after ≡ seen ++ (id ∷ []))
+    → (id_at key d ≡ Some id) × (is_seen id seen ≡ false) × (after ≡ with_id id seen)
 unfolding new_id int_in
 new_found path key d seen id after e =
-    let got = bind_ok (wanted (key_path path key) (id_at key d)) (λ z. cond {A = Read ℤ} (is_seen z seen) (Err (key_path path key)) (Ok (z, seen ++ (z ∷ [])))) (id, after) e in
+    let got = bind_ok (wanted (key_path path key) (id_at key d)) (λ z. cond {A = Read ℤ} (is_seen z seen) (Err (key_path path key)) (Ok (z, with_id z seen))) (id, after) e in
     go got.0 (wanted_ok (key_path path key) (id_at key d) got.0 got.1) (is_seen got.0 seen) refl got.2
   where
-    go : (z : ℤ) → id_at key d ≡ Some z → (b : Bool) → is_seen z seen ≡ b → cond {A = Read ℤ} b (Err (key_path path key)) (Ok (z, seen ++ (z ∷ []))) ≡ Ok (id, after)
-        → (id_at key d ≡ Some id) × (is_seen id seen ≡ false) × (after ≡ seen ++ (id ∷ []))
+    go : (z : ℤ) → id_at key d ≡ Some z → (b : Bool) → is_seen z seen ≡ b → cond {A = Read ℤ} b (Err (key_path path key)) (Ok (z, with_id z seen)) ≡ Ok (id, after)
+        → (id_at key d ≡ Some id) × (is_seen id seen ≡ false) × (after ≡ with_id id seen)
     go z is true unseen f = absurd cc
     go z is false unseen f =
         let same : z ≡ id = same_value f in
-        (is ∙ ap (λ (w : ℤ). Some w) same, ap (λ w. is_seen w seen) (sym same) ∙ unseen, sym (same_rest f) ∙ ap (λ w. seen ++ (w ∷ [])) same)
+        (is ∙ ap (λ (w : ℤ). Some w) same, ap (λ w. is_seen w seen) (sym same) ∙ unseen, sym (same_rest f) ∙ ap (λ w. with_id w seen) same)
+
+-- those that were met, and these
+abbrev pub with_ids : List ℤ → List ℤ → List ℤ
+with_ids seen [] = seen
+with_ids seen (id ∷ ids) = with_ids (with_id id seen) ids
+
+pub with_ids-append : (seen xs ys : List ℤ) → with_ids (with_ids seen xs) ys ≡ with_ids seen (xs ++ ys)
+with_ids-append seen [] ys = refl
+with_ids-append seen (x ∷ xs) ys = with_ids-append (with_id x seen) xs ys
 
 -- a value is spelled, and its ids are new behind those before it
 pub record IsFoundAt {A : Type 0} (P : A → Type 0) (ids : A → List ℤ) (seen : List ℤ) (x : A) (after : List ℤ) : Type 0 where
   pub spells : P x
-  pub met : after ≡ seen ++ ids x
+  pub met : after ≡ with_ids seen (ids x)
   pub are_new : AreNew seen (ids x)
 
 abbrev pub IsFound : {A : Type 0} → (Data → A → Type 0) → (A → List ℤ) → Reader A → Type 0
@@ -67,9 +75,9 @@ abbrev pub ids_of : {A : Type 0} → (A → List ℤ) → List A → List ℤ
 ids_of ids [] = []
 ids_of ids (x ∷ xs) = ids x ++ ids_of ids xs
 
-pub new-append : (seen xs ys : List ℤ) → AreNew seen xs → AreNew (seen ++ xs) ys → AreNew seen (xs ++ ys)
-new-append seen [] ys a b = subst (λ s. AreNew s ys) (append-nil seen) b
-new-append seen (x ∷ xs) ys a b = (a.0, new-append (seen ++ (x ∷ [])) xs ys a.1 (subst (λ s. AreNew s ys) (sym (append_assoc seen (x ∷ []) xs)) b))
+pub new-append : (seen xs ys : List ℤ) → AreNew seen xs → AreNew (with_ids seen xs) ys → AreNew seen (xs ++ ys)
+new-append seen [] ys a b = b
+new-append seen (x ∷ xs) ys a b = (a.0, new-append (with_id x seen) xs ys a.1 b)
 
 -- Trees in a list.
 
@@ -82,7 +90,7 @@ pub each_found : {A : Type 0} (P : Data → A → Type 0) (ids : A → List ℤ)
 unfolding each
 each_found {A} P ids one h path i no_items seen xs after e =
     subst (λ (ys : List A). IsFoundAt (SpellsEach P no_items) (ids_of ids) seen ys after) (same_value e)
-    (record { spells = tt; met = sym (same_rest e) ∙ sym (append-nil seen); are_new = tt })
+    (record { spells = tt; met = sym (same_rest e); are_new = tt })
 each_found {A} P ids one h path i (item d ds) seen xs after e =
     let first = bind_ok (one (index_path path i) d seen) (λ x. with_first x.0 (each one path (suc i) ds x.1)) (xs, after) e in
     let x = first.0.0 in
@@ -93,7 +101,7 @@ each_found {A} P ids one h path i (item d ds) seen xs after e =
     subst (λ (ys : List A). IsFoundAt (SpellsEach P (item d ds)) (ids_of ids) seen ys after) behind.2
     (record {
       spells = (one_is.spells, more.spells);
-      met = more.met ∙ ap (λ s. s ++ ids_of ids behind.0) one_is.met ∙ append_assoc seen (ids x) (ids_of ids behind.0);
+      met = more.met ∙ ap (λ s. with_ids s (ids_of ids behind.0)) one_is.met ∙ with_ids-append seen (ids x) (ids_of ids behind.0);
       are_new = new-append seen (ids x) (ids_of ids behind.0) one_is.are_new (subst (λ s. AreNew s (ids_of ids behind.0)) one_is.met more.are_new);
     })
 

@@ -1,5 +1,6 @@
 mod Again
 mod Found
+mod KnownLaws
 mod Lists
 mod NestingLaws
 mod Public

@@ -1,6 +1,5 @@
 -- A schema that is read is spelled so.
-use Rattle.std.proofs.Common.{◌≡◌, ℕ, ℤ, zero, suc, ◌++◌, List, [], ◌∷◌, codes, Bool, true, false, Ok, Err, refl, sym, ap, ◌∙◌, subst, append_assoc, Option, Some, None, option_and_then, ◌⊎◌, inl, inr, cond}
-use Rattle.std.proofs.lemmas.List.{append-nil}
+use Rattle.std.proofs.Common.{◌≡◌, ℕ, ℤ, zero, suc, ◌++◌, List, [], ◌∷◌, codes, Bool, true, false, Ok, Err, refl, sym, ap, ◌∙◌, subst, Option, Some, None, option_and_then, ◌⊎◌, inl, inr, cond}
 use Rattle.std.proofs.lemmas.Slice.Eq.{bytes_eq-Decides}
 use Rattle.std.specs.Str.{bytes_eq}
 use Rattle.serde_json.specs.Data.{Data, null, boolean, number, string, array, object}
@@ -17,7 +16,7 @@ use Rattle.schema_trees.specs.Reading.{Read, Reader, wanted, int_in, text_in, ne
 use Rattle.schema_trees.specs.TypeReading.{flag_in, inner_from, inner_at, list_at, map_at, column_at, struct_at, object_from, object_at, word_at, level, read, schema_of}
 use Rattle.schema_trees.specs.TypeSpelling.{SpellsColumn, SpellsLevel, a_primitive, a_list, a_map, a_struct, SpellsWithin, SpellsSchema}
 use Rattle.schema_trees.specs.TypeWords.{primitive}
-use Rattle.schema_trees.proofs.Found.{same_ok, same_value, same_rest, bind_ok, wanted_ok, object_ok, new_found, IsFoundAt, IsFound, ids_of, new-append, each_found}
+use Rattle.schema_trees.proofs.Found.{same_ok, same_value, same_rest, bind_ok, wanted_ok, object_ok, new_found, IsFoundAt, IsFound, ids_of, with_ids, with_ids-append, new-append, each_found}
 use Rattle.schema_trees.proofs.TypeIds.{ids-List, ids-Map, ids-Struct, ids-column, ids-columns, ids-primitive}
 
 chosen : {A : Type 0} (b : Bool) (x y z : A) → cond b x y ≡ z → ((b ≡ true) × (x ≡ z)) ⊎ ((b ≡ false) × (y ≡ z))
@@ -29,11 +28,11 @@ option_cases None = inl refl
 option_cases (Some x) = inr (x, refl)
 
 -- ids behind others: those of a part, and those that follow
-behind : (seen xs ys between after : List ℤ) → between ≡ seen ++ xs → after ≡ between ++ ys → after ≡ seen ++ (xs ++ ys)
-behind seen xs ys between after a b = b ∙ ap (λ s. s ++ ys) a ∙ append_assoc seen xs ys
+behind : (seen xs ys between after : List ℤ) → between ≡ with_ids seen xs → after ≡ with_ids between ys → after ≡ with_ids seen (xs ++ ys)
+behind seen xs ys between after a b = b ∙ ap (λ s. with_ids s ys) a ∙ with_ids-append seen xs ys
 
 -- both are new
-new-behind : (seen xs ys between : List ℤ) → between ≡ seen ++ xs → AreNew seen xs → AreNew between ys → AreNew seen (xs ++ ys)
+new-behind : (seen xs ys between : List ℤ) → between ≡ with_ids seen xs → AreNew seen xs → AreNew between ys → AreNew seen (xs ++ ys)
 new-behind seen xs ys between a new more = new-append seen xs ys new (subst (λ s. AreNew s ys) a more)
 
 word_found : (P : Data → ColType → Type 0) (path word : List ℕ) (seen : List ℤ) (t : ColType) (after : List ℤ) → word_at path word seen ≡ Ok (t, after) → IsFoundAt (SpellsLevel P (string word)) type_ids seen t after
@@ -44,7 +43,7 @@ word_found P path word seen t after e =
     let none : type_ids t ≡ [] = ids-primitive word t is in
     record {
       spells = a_primitive word refl is;
-      met = sym (same_rest got.2) ∙ sym (append-nil seen) ∙ ap (λ ids. seen ++ ids) (sym none);
+      met = sym (same_rest got.2) ∙ ap (λ ids. with_ids seen ids) (sym none);
       are_new = subst (AreNew seen) (sym none) tt;
     }
 
@@ -83,7 +82,7 @@ module _ (P : Data → ColType → Type 0) (type : Reader ColType) (h : IsFound 
           is_type = inner.is_there;
           spells = inner.found.spells;
         };
-        met = behind seen (id.0.0 ∷ []) (type_ids ty.0.0) id.0.1 ty.0.1 met.2 inner.found.met ∙ ap (λ k. seen ++ k) (sym ids);
+        met = behind seen (id.0.0 ∷ []) (type_ids ty.0.0) id.0.1 ty.0.1 met.2 inner.found.met ∙ ap (λ k. with_ids seen k) (sym ids);
         are_new = subst (AreNew seen) (sym ids) (new-behind seen (id.0.0 ∷ []) (type_ids ty.0.0) id.0.1 met.2 (met.1, tt) inner.found.are_new);
       } in
       let last : ◌≡◌ {A = Read Column} (Ok (made, ty.0.1)) (Ok (c, after)) = ty.2 in
@@ -101,7 +100,7 @@ module _ (P : Data → ColType → Type 0) (type : Reader ColType) (h : IsFound 
       let ids : type_ids made ≡ type_ids element.0.0 ++ (id.0.0 ∷ []) = ids-List id.0.0 required.0 element.0.0 in
       let it : IsFoundAt (SpellsLevel P d) type_ids seen made id.0.1 = record {
         spells = a_list inner.tree element.0.0 id.0.0 required.0 is inner.is_there inner.found.spells met.0 (wanted_ok (key_path path (codes "element-required")) (option_and_then as_bool (get (codes "element-required") d)) required.0 required.1) refl;
-        met = behind seen (type_ids element.0.0) (id.0.0 ∷ []) element.0.1 id.0.1 inner.found.met met.2 ∙ ap (λ k. seen ++ k) (sym ids);
+        met = behind seen (type_ids element.0.0) (id.0.0 ∷ []) element.0.1 id.0.1 inner.found.met met.2 ∙ ap (λ k. with_ids seen k) (sym ids);
         are_new = subst (AreNew seen) (sym ids) (new-behind seen (type_ids element.0.0) (id.0.0 ∷ []) element.0.1 inner.found.met inner.found.are_new (met.1, tt));
       } in
       let last : ◌≡◌ {A = Read ColType} (Ok (made, id.0.1)) (Ok (t, after)) = required.2 in
@@ -122,14 +121,14 @@ module _ (P : Data → ColType → Type 0) (type : Reader ColType) (h : IsFound 
       let made : ColType = Map key_id.0.0 key.0.0 value_id.0.0 required.0 value.0.0 in
       let last_ids : List ℤ = type_ids value.0.0 ++ (value_id.0.0 ∷ []) in
       let ids : type_ids made ≡ type_ids key.0.0 ++ ((key_id.0.0 ∷ []) ++ last_ids) = ids-Map key_id.0.0 key.0.0 value_id.0.0 required.0 value.0.0 in
-      let met_values : value_id.0.1 ≡ key_id.0.1 ++ last_ids = behind key_id.0.1 (type_ids value.0.0) (value_id.0.0 ∷ []) value.0.1 value_id.0.1 values.found.met value_met.2 in
+      let met_values : value_id.0.1 ≡ with_ids key_id.0.1 last_ids = behind key_id.0.1 (type_ids value.0.0) (value_id.0.0 ∷ []) value.0.1 value_id.0.1 values.found.met value_met.2 in
       let new_values : AreNew key_id.0.1 last_ids = new-behind key_id.0.1 (type_ids value.0.0) (value_id.0.0 ∷ []) value.0.1 values.found.met values.found.are_new (value_met.1, tt) in
-      let met_rest : value_id.0.1 ≡ key.0.1 ++ ((key_id.0.0 ∷ []) ++ last_ids) = behind key.0.1 (key_id.0.0 ∷ []) last_ids key_id.0.1 value_id.0.1 key_met.2 met_values in
+      let met_rest : value_id.0.1 ≡ with_ids key.0.1 ((key_id.0.0 ∷ []) ++ last_ids) = behind key.0.1 (key_id.0.0 ∷ []) last_ids key_id.0.1 value_id.0.1 key_met.2 met_values in
       let new_rest : AreNew key.0.1 ((key_id.0.0 ∷ []) ++ last_ids) = new-behind key.0.1 (key_id.0.0 ∷ []) last_ids key_id.0.1 key_met.2 (key_met.1, tt) new_values in
       let it : IsFoundAt (SpellsLevel P d) type_ids seen made value_id.0.1 = record {
         spells = a_map keys.tree values.tree key.0.0 value.0.0 key_id.0.0 value_id.0.0 required.0 is keys.is_there keys.found.spells key_met.0 values.is_there values.found.spells value_met.0
             (wanted_ok (key_path path (codes "value-required")) (option_and_then as_bool (get (codes "value-required") d)) required.0 required.1) refl;
-        met = behind seen (type_ids key.0.0) ((key_id.0.0 ∷ []) ++ last_ids) key.0.1 value_id.0.1 keys.found.met met_rest ∙ ap (λ k. seen ++ k) (sym ids);
+        met = behind seen (type_ids key.0.0) ((key_id.0.0 ∷ []) ++ last_ids) key.0.1 value_id.0.1 keys.found.met met_rest ∙ ap (λ k. with_ids seen k) (sym ids);
         are_new = subst (AreNew seen) (sym ids) (new-behind seen (type_ids key.0.0) ((key_id.0.0 ∷ []) ++ last_ids) key.0.1 keys.found.met keys.found.are_new new_rest);
       } in
       let last : ◌≡◌ {A = Read ColType} (Ok (made, value_id.0.1)) (Ok (t, after)) = required.2 in
@@ -145,7 +144,7 @@ module _ (P : Data → ColType → Type 0) (type : Reader ColType) (h : IsFound 
       let ids : type_ids made ≡ ids_of column_ids columns.0.0 = ids-Struct columns.0.0 ∙ sym (ids-columns columns.0.0) in
       let it : IsFoundAt (SpellsLevel P d) type_ids seen made columns.0.1 = record {
         spells = a_struct items.0 columns.0.0 is (wanted_ok (key_path path (codes "fields")) (option_and_then as_array (get (codes "fields") d)) items.0 items.1) all.spells refl;
-        met = all.met ∙ ap (λ k. seen ++ k) (sym ids);
+        met = all.met ∙ ap (λ k. with_ids seen k) (sym ids);
         are_new = subst (AreNew seen) (sym ids) all.are_new;
       } in
       let last : ◌≡◌ {A = Read ColType} (Ok (made, columns.0.1)) (Ok (t, after)) = columns.2 in

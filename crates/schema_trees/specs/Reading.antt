@@ -1,5 +1,5 @@
 -- Reading a tree, with its first fault: the members of an object in byte order of their keys, the items of an array in their order.
-use Rattle.std.specs.Prelude.{◌≡◌, ℕ, suc, ℤ, ◌++◌, List, [], ◌∷◌, codes, if◌then◌else◌, Option, Some, None, is_some, option_and_then, Result, Ok, Err}
+use Rattle.std.specs.Prelude.{◌≡◌, ℕ, suc, ℤ, List, [], ◌∷◌, codes, if◌then◌else◌, Option, Some, None, is_some, option_and_then, Result, Ok, Err}
 use Rattle.serde_json.specs.Data.{Data, Items, no_items, item}
 use Rattle.serde_json.specs.Find.{get, as_array, as_object}
 use Rattle.avro_schema.specs.Attribute.{text_at, id_at}
@@ -8,14 +8,14 @@ use Rattle.schema_types.specs.declared.types.SpecField.{SpecField}
 use Rattle.schema_types.specs.declared.types.Spec.{Spec}
 use Rattle.schema_trees.specs.declared.fault.JsonErr.{JsonErr}
 use Rattle.schema_trees.specs.declared.fault.JsonErr.TheVariants as errors
-use Rattle.schema_trees.specs.Ids.{is_seen}
+use Rattle.schema_trees.specs.Ids.{is_seen, with_id}
 use Rattle.schema_trees.specs.Words.{transform_of}
 
 -- the path of a fault
 abbrev pub Fault : Type 0
 Fault = List ℕ
 
--- what is read, and the ids that were met so far
+-- what is read, and the set of the ids that were met so far
 abbrev pub Read : Type 0 → Type 0
 Read A = Result (A × List ℤ) Fault
 
@@ -48,7 +48,7 @@ text_in path key d = wanted (key_path path key) (text_at key d)
 
 -- an id that is none of those before it
 unfoldable pub new_id : List ℕ → List ℕ → Data → List ℤ → Read ℤ
-new_id path key d seen = int_in path key d >>= λ id. if is_seen id seen then Err (key_path path key) else Ok (id, seen ++ (id ∷ []))
+new_id path key d seen = int_in path key d >>= λ id. if is_seen id seen then Err (key_path path key) else Ok (id, with_id id seen)
 
 -- trees in a list, one after the other, from the one with this number on
 abbrev pub with_first : {A : Type 0} → A → Read (List A) → Read (List A)

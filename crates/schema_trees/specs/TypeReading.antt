@@ -1,4 +1,5 @@
--- Reading a schema from its tree, with its first fault. An object's `type` comes first, then its members in byte order of their keys.
+-- Reading a schema from its tree, with its first fault: the members of an object in byte order of their keys, but the `type` of a list,
+-- a map or a struct first, since it says which members there are.
 use Rattle.std.specs.Prelude.{ℕ, zero, suc, ℤ, List, [], codes, Bool, if◌then◌else◌, Option, Some, None, option_and_then, Result, Ok, Err}
 use Rattle.std.specs.Str.{bytes_eq}
 use Rattle.serde_json.specs.Data.{Data, null, boolean, number, string, array, object, Items}

@@ -1,4 +1,5 @@
--- The tree that is written for a partition spec, with the members of the Rust type alone, and the specs that it is written for.
+-- The tree that is written for a partition spec without an unknown transform, with the members of the Rust type alone (Iceberg table
+-- specification, Appendix C, "Partition Specs"), and the specs that it is written for.
 use Rattle.std.specs.Prelude.{ℕ, ℤ, pos, negsuc, ◌<◌, ◌^◌, ◌++◌, List, [], ◌∷◌, codes, map}
 use Rattle.std.specs.Fmt.{decimal}
 use Rattle.serde_json.specs.Data.{Data, number, string, array, object, no_members, put}
@@ -11,7 +12,7 @@ use Rattle.schema_types.specs.declared.types.Transform.TheVariants.{Identity, Bu
 use Rattle.schema_trees.specs.Ids.{AreNew}
 use Rattle.schema_trees.specs.Spelling.{field_ids}
 
--- the text of a transform
+-- the text of a transform; one that isn't known has none, and isn't written
 abbrev pub transform_text : Transform → List ℕ
 transform_text Identity = codes "identity"
 transform_text (Bucket n) = codes "bucket[" ++ (decimal n ++ codes "]")
@@ -21,7 +22,7 @@ transform_text Month = codes "month"
 transform_text Day = codes "day"
 transform_text Hour = codes "hour"
 transform_text Void = codes "void"
-transform_text Unknown = codes "unknown"
+transform_text Unknown = []
 
 -- the tree of a whole number
 abbrev pub int_tree : ℤ → Data

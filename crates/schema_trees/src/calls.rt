@@ -1,7 +1,8 @@
-ghost use Rattle.std.specs.Prelude.{◌≡◌, IfOk, Ok};
+ghost use Rattle.std.specs.Prelude.{◌≡◌, IfOk, Ok, true};
 ghost use Rattle.serde_json.specs.View.{view};
 ghost use Rattle.schema_types.specs.declared.types.Schema.{Schema};
 ghost use Rattle.schema_types.specs.declared.types.Spec.{Spec};
+ghost use Rattle.schema_types.specs.Known.{has_known_transforms};
 ghost use Rattle.schema_trees.specs.Reading.{Gives, spec_of};
 ghost use Rattle.schema_trees.specs.Spelling.{SpellsSpec, SpellsNoSpec, OnFault};
 ghost use Rattle.schema_trees.specs.TypeReading.{schema_of};
@@ -17,8 +18,11 @@ use std::alloc::{AllocError, Global};
 
 /// The schema that a JSON tree spells (Iceberg table specification, Appendix C, "Schemas").
 ///
-/// `Bad` has the path of the first fault: an object's `type` comes first, then its members in byte order of their keys.
-/// Of two equal ids of columns, elements, keys and values the later one is at fault. Other members count for nothing.
+/// `Bad` has the path of the first fault. The members of an object are tried in byte order of their keys, each with what
+/// lies within it, and the items of an array in their order: so the root's `type` is tried last. But in an object that
+/// is the type of a column, element, key or value its `type` is tried first, since it says which members there are.
+/// In this order, of two equal ids of columns, elements, keys and values the later one is at fault, and a type that lies
+/// within 128 others is. Other members count for nothing.
 pub fn read_schema(alloc: Global, tree: &Value) -> Result<Schema, JsonErr>
     // What is read is spelled so.
     ensures found { IfOk result (SpellsSchema (view tree.now)) }
@@ -49,9 +53,11 @@ pub fn read_spec(alloc: Global, tree: &Value) -> Result<Spec, JsonErr>
     spec_reading::read(alloc, tree)
 }
 
-/// The JSON tree that is written for a partition spec: an object with the members of the Rust type alone. A transform
-/// that isn't known is written `unknown`.
+/// The JSON tree that is written for a partition spec: an object with the members of the Rust type alone.
+///
+/// An unknown transform has no spelling. Whether the spec has one, `Spec::has_known_transforms` tells.
 pub fn spec_tree(alloc: Global, spec: &Spec) -> Result<Value, AllocError>
+    requires known { has_known_transforms spec.now ≡ true }
     ensures written { IfOk result (λ v. view v ≡ written_spec spec.now) }
     // It is one of the spellings of a spec such as is read.
     ensures spelled { IfOk result (λ v. IsSpec spec.now → SpellsSpec (view v) spec.now) }

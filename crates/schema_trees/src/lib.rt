@@ -4,14 +4,13 @@
 mod attribute;
 mod calls;
 mod fault;
+mod met;
 mod nesting;
 mod path;
 mod schema_reading;
 mod schema_writing;
 mod spec_reading;
 mod spec_writing;
-#[cfg(test)]
-mod tests;
 mod type_words;
 mod words;
 

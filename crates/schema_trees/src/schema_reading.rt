@@ -4,10 +4,12 @@ ghost use Rattle.serde_json.specs.View.{view, items_view};
 ghost use Rattle.schema_trees.specs.Reading.{Gives, Reads, each};
 ghost use Rattle.schema_trees.specs.TypeReading.{inner_at, list_at, map_at, column_at, struct_at, object_at, word_at, level, read, schema_of};
 
-use crate::attribute::{array_at, flag_in, int_in, new_id, text_at, text_in};
+use crate::attribute::{flag_in, int_in, new_id, text_in};
 use crate::fault::JsonErr;
-use crate::path::{fault, fault_at, index_path, key_path};
+use crate::met::MetIds;
+use crate::path::{fault, fault_at};
 use crate::type_words::primitive;
+use avro_schema::{array_at, index_path, key_path, text_at};
 use schema_types::{ColType, Column, ColumnList, Schema};
 use serde_json::Value;
 use sqlite_items::{Boxed, Items};
@@ -17,8 +19,8 @@ use std::alloc::Global;
 const MOST_TYPES: u32 = 128;
 
 #[tactic(auto, unfolding(crate::specs::TypeReading::word_at))]
-fn read_word(alloc: Global, word: &str, path: &str, seen: &mut Vec<i32>) -> Result<ColType, JsonErr>
-    ensures { Reads result seen.new.items (word_at path.now word.now seen.old.items) }
+fn read_word(alloc: Global, word: &str, path: &str, seen: &mut MetIds) -> Result<ColType, JsonErr>
+    ensures { Reads result seen.new (word_at path.now word.now seen.old) }
 {
     match primitive(alloc, word)? {
         Some(ty) => Ok(ty),
@@ -33,9 +35,9 @@ fn read_type(
     tree: &Value,
     path: &str,
     most: u32,
-    seen: &mut Vec<i32>,
+    seen: &mut MetIds,
 ) -> Result<ColType, JsonErr>
-    ensures { Reads result seen.new.items (read most path.now (view tree.now) seen.old.items) }
+    ensures { Reads result seen.new (read most path.now (view tree.now) seen.old) }
 {
     if most == 0 {
         return Err(fault(alloc, path));
@@ -50,9 +52,9 @@ fn read_level(
     tree: &Value,
     path: &str,
     left: u32,
-    seen: &mut Vec<i32>,
+    seen: &mut MetIds,
 ) -> Result<ColType, JsonErr>
-    ensures { Reads result seen.new.items (level (read left) path.now (view tree.now) seen.old.items) }
+    ensures { Reads result seen.new (level (read left) path.now (view tree.now) seen.old) }
 {
     match tree {
         Value::String(word) => read_word(alloc, word.as_str(), path, seen),
@@ -68,9 +70,9 @@ fn read_object(
     tree: &Value,
     path: &str,
     left: u32,
-    seen: &mut Vec<i32>,
+    seen: &mut MetIds,
 ) -> Result<ColType, JsonErr>
-    ensures { Reads result seen.new.items (object_at (read left) path.now (view tree.now) seen.old.items) }
+    ensures { Reads result seen.new (object_at (read left) path.now (view tree.now) seen.old) }
 {
     let Some(word) = text_at(tree, "type") else {
         return Err(fault_at(alloc, path, "type"));
@@ -94,9 +96,9 @@ fn read_inner(
     path: &str,
     key: &str,
     left: u32,
-    seen: &mut Vec<i32>,
+    seen: &mut MetIds,
 ) -> Result<ColType, JsonErr>
-    ensures { Reads result seen.new.items (inner_at (read left) path.now key.now (view tree.now) seen.old.items) }
+    ensures { Reads result seen.new (inner_at (read left) path.now key.now (view tree.now) seen.old) }
 {
     let place = key_path(alloc, path, key)?;
     match tree.get(key) {
@@ -112,9 +114,9 @@ fn read_list(
     tree: &Value,
     path: &str,
     left: u32,
-    seen: &mut Vec<i32>,
+    seen: &mut MetIds,
 ) -> Result<ColType, JsonErr>
-    ensures { Reads result seen.new.items (list_at (read left) path.now (view tree.now) seen.old.items) }
+    ensures { Reads result seen.new (list_at (read left) path.now (view tree.now) seen.old) }
 {
     let element = read_inner(alloc, tree, path, "element", left, seen)?;
     let element_id = new_id(alloc, tree, path, "element-id", seen)?;
@@ -133,9 +135,9 @@ fn read_map(
     tree: &Value,
     path: &str,
     left: u32,
-    seen: &mut Vec<i32>,
+    seen: &mut MetIds,
 ) -> Result<ColType, JsonErr>
-    ensures { Reads result seen.new.items (map_at (read left) path.now (view tree.now) seen.old.items) }
+    ensures { Reads result seen.new (map_at (read left) path.now (view tree.now) seen.old) }
 {
     let key = read_inner(alloc, tree, path, "key", left, seen)?;
     let key_id = new_id(alloc, tree, path, "key-id", seen)?;
@@ -158,9 +160,9 @@ fn read_struct(
     tree: &Value,
     path: &str,
     left: u32,
-    seen: &mut Vec<i32>,
+    seen: &mut MetIds,
 ) -> Result<ColType, JsonErr>
-    ensures { Reads result seen.new.items (struct_at (read left) path.now (view tree.now) seen.old.items) }
+    ensures { Reads result seen.new (struct_at (read left) path.now (view tree.now) seen.old) }
 {
     let place = key_path(alloc, path, "fields")?;
     let Some(trees) = array_at(tree, "fields") else {
@@ -176,9 +178,9 @@ fn read_columns(
     trees: &[Value],
     path: &str,
     left: u32,
-    seen: &mut Vec<i32>,
+    seen: &mut MetIds,
 ) -> Result<ColumnList, JsonErr>
-    ensures { Reads result seen.new.items (each (column_at (read left)) path.now 0 (items_view trees.now) seen.old.items) }
+    ensures { Reads result seen.new (each (column_at (read left)) path.now 0 (items_view trees.now) seen.old) }
 {
     let mut columns = Items::new(alloc);
     for (index, tree) in trees.iter().enumerate() {
@@ -195,9 +197,9 @@ fn read_column(
     tree: &Value,
     path: &str,
     left: u32,
-    seen: &mut Vec<i32>,
+    seen: &mut MetIds,
 ) -> Result<Column, JsonErr>
-    ensures { Reads result seen.new.items (column_at (read left) path.now (view tree.now) seen.old.items) }
+    ensures { Reads result seen.new (column_at (read left) path.now (view tree.now) seen.old) }
 {
     if !tree.is_object() {
         return Err(fault(alloc, path));
@@ -225,7 +227,7 @@ pub(crate) fn read(alloc: Global, tree: &Value) -> Result<Schema, JsonErr>
     let Some(trees) = array_at(tree, "fields") else {
         return Err(fault_at(alloc, "", "fields"));
     };
-    let mut seen = Vec::new(alloc);
+    let mut seen = MetIds::new(alloc);
     let columns = read_columns(alloc, trees.as_slice(), "fields", MOST_TYPES, &mut seen)?;
     let id = int_in(alloc, tree, "", "schema-id")?;
     if text_at(tree, "type") == Some("struct") {

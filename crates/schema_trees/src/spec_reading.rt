@@ -3,10 +3,12 @@ ghost use Rattle.std.specs.Prelude.{◌≡◌};
 ghost use Rattle.serde_json.specs.View.{view, items_view};
 ghost use Rattle.schema_trees.specs.Reading.{Gives, Reads, each, field_at, spec_of};
 
-use crate::attribute::{array_at, int_in, new_id, text_at, text_in};
+use crate::attribute::{int_in, new_id, text_in};
 use crate::fault::JsonErr;
-use crate::path::{fault, fault_at, index_path};
+use crate::met::MetIds;
+use crate::path::{fault, fault_at};
 use crate::words::transform_of;
+use avro_schema::{array_at, index_path, text_at};
 use schema_types::{Spec, SpecField, SpecFieldList};
 use serde_json::Value;
 use sqlite_items::Items;
@@ -17,9 +19,9 @@ fn read_field(
     alloc: Global,
     tree: &Value,
     path: &str,
-    seen: &mut Vec<i32>,
+    seen: &mut MetIds,
 ) -> Result<SpecField, JsonErr>
-    ensures { Reads result seen.new.items (field_at path.now (view tree.now) seen.old.items) }
+    ensures { Reads result seen.new (field_at path.now (view tree.now) seen.old) }
 {
     if !tree.is_object() {
         return Err(fault(alloc, path));
@@ -43,9 +45,9 @@ fn read_fields(
     alloc: Global,
     trees: &[Value],
     path: &str,
-    seen: &mut Vec<i32>,
+    seen: &mut MetIds,
 ) -> Result<SpecFieldList, JsonErr>
-    ensures { Reads result seen.new.items (each field_at path.now 0 (items_view trees.now) seen.old.items) }
+    ensures { Reads result seen.new (each field_at path.now 0 (items_view trees.now) seen.old) }
 {
     let mut fields = Items::new(alloc);
     for (index, tree) in trees.iter().enumerate() {
@@ -66,7 +68,7 @@ pub(crate) fn read(alloc: Global, tree: &Value) -> Result<Spec, JsonErr>
     let Some(trees) = array_at(tree, "fields") else {
         return Err(fault_at(alloc, "", "fields"));
     };
-    let mut seen = Vec::new(alloc);
+    let mut seen = MetIds::new(alloc);
     let fields = read_fields(alloc, trees.as_slice(), "fields", &mut seen)?;
     let id = int_in(alloc, tree, "", "spec-id")?;
     Ok(Spec { id, fields })

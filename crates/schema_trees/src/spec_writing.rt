@@ -1,14 +1,18 @@
 // The tree that is written for a partition spec.
-ghost use Rattle.std.specs.Prelude.{◌≡◌, ◌++◌, map, IfOk, OnOk, string_bytes};
-ghost use Rattle.serde_json.specs.Data.{put, string};
+ghost use Rattle.std.specs.Prelude.{◌≡◌, ◌++◌, map, IfOk, OnOk, string_bytes, true};
+ghost use Rattle.std.specs.List.{list_all};
+ghost use Rattle.serde_json.specs.Data.{put};
 ghost use Rattle.serde_json.specs.View.{view, members_view};
+ghost use Rattle.schema_types.specs.Known.{is_known, has_known_transforms};
 ghost use Rattle.schema_trees.specs.Writing.{transform_text, int_tree, field_tree, written_spec};
 
+use avro_schema::put_text;
 use schema_types::{Spec, SpecField, Transform};
 use serde_json::{Map, Value};
 use std::alloc::{AllocError, Global};
 
 fn transform_text(alloc: Global, transform: Transform) -> Result<String, AllocError>
+    requires { is_known transform ≡ true }
     ensures { IfOk result (λ t. string_bytes t ≡ transform_text transform) }
 {
     match transform {
@@ -20,19 +24,8 @@ fn transform_text(alloc: Global, transform: Transform) -> Result<String, AllocEr
         Transform::Day => String::from_str(alloc, "day"),
         Transform::Hour => String::from_str(alloc, "hour"),
         Transform::Void => String::from_str(alloc, "void"),
-        Transform::Unknown => String::from_str(alloc, "unknown"),
+        Transform::Unknown => unreachable!(),
     }
-}
-
-fn put_text(
-    members: &mut Map<String, Value>,
-    alloc: Global,
-    key: &str,
-    text: String,
-) -> Result<(), AllocError>
-    ensures { OnOk result (members_view members.new.entries ≡ put key.now (string (string_bytes text)) (members_view members.old.entries)) }
-{
-    serde_json::put(members, alloc, key, Value::String(text))
 }
 
 pub(crate) fn put_int(
@@ -48,22 +41,20 @@ pub(crate) fn put_int(
 
 #[tactic(auto, unfolding(crate::specs::Writing::field_tree))]
 fn field_tree(alloc: Global, field: &SpecField) -> Result<Value, AllocError>
+    requires { is_known field.now.transform ≡ true }
     ensures { IfOk result (λ v. view v ≡ field_tree field.now) }
 {
     let mut members = Map::new(alloc);
     put_int(&mut members, alloc, "field-id", field.field_id)?;
-    put_text(&mut members, alloc, "name", field.name.copy()?.into_inner())?;
+    put_text(&mut members, alloc, "name", field.name.as_str())?;
     put_int(&mut members, alloc, "source-id", field.source_id)?;
-    put_text(
-        &mut members,
-        alloc,
-        "transform",
-        transform_text(alloc, field.transform)?,
-    )?;
+    let transform = transform_text(alloc, field.transform)?;
+    put_text(&mut members, alloc, "transform", transform.as_str())?;
     Ok(Value::Object(members))
 }
 
 fn field_trees(alloc: Global, fields: &[SpecField]) -> Result<Vec<Value>, AllocError>
+    requires { list_all (λ f. is_known f.transform) fields.now ≡ true }
     ensures { IfOk result (λ v. map view v.items ≡ map field_tree fields.now) }
 {
     let mut trees = Vec::with_capacity(alloc, fields.len())?;
@@ -75,6 +66,7 @@ fn field_trees(alloc: Global, fields: &[SpecField]) -> Result<Vec<Value>, AllocE
 
 #[tactic(auto, unfolding(crate::specs::Writing::written_spec))]
 pub(crate) fn tree_of(alloc: Global, spec: &Spec) -> Result<Value, AllocError>
+    requires { has_known_transforms spec.now ≡ true }
     ensures { IfOk result (λ v. view v ≡ written_spec spec.now) }
 {
     let fields = field_trees(alloc, spec.fields.as_slice())?;

@@ -2,6 +2,7 @@
 #![tactic(auto)]
 
 mod copying;
+mod known;
 mod types;
 
 pub use types::{

@@ -33,4 +33,4 @@ abbrev pub decreases-read_map : goal.decreases-read_map
 decreases-read_map l = 8 * l.left + 2
 
 abbrev pub invariant-read_columns-loop-index : goal.invariant-read_columns-loop-index
-invariant-read_columns-loop-index l = with_front l.columns (each (column_at (read l.left)) l.path l.index (items_view (drop l.index l.trees)) l.seen.items) ≡ each (column_at (read l.left)) l.path 0 (items_view l.trees) l.initial.seen.items
+invariant-read_columns-loop-index l = with_front l.columns (each (column_at (read l.left)) l.path l.index (items_view (drop l.index l.trees)) l.seen) ≡ each (column_at (read l.left)) l.path 0 (items_view l.trees) l.initial.seen

@@ -1,6 +1,7 @@
-//! Tests of `ice_schema`: a worked row, and tables. Their values are put together by hand from the Iceberg
+//! Tests of the crates of schemas: a worked row, and tables. Their values are put together by hand from the Iceberg
 //! specification's tables.
 //!
+//! - `schemas`, `specs`: JSON trees of schemas and of partition specs, read and written.
 //! - `mapping`: Avro schemas of types.
 //! - `partitions`: types of partitions.
 //! - `projections`: projections of files' schemas.
@@ -13,5 +14,9 @@ mod mapping;
 mod partitions;
 #[cfg(test)]
 mod projections;
+#[cfg(test)]
+mod schemas;
+#[cfg(test)]
+mod specs;
 #[cfg(test)]
 mod tables;
