@@ -1,5 +1,5 @@
 -- What an attempt of a change does before its publish: the files that it makes, and the identifiers that it draws.
-use Rattle.std.specs.Prelude.{◌≡◌, ◌⊎◌, ℕ, Bool, if◌then◌else◌, true, List, [], ◌∷◌, ◌++◌, Option, Some}
+use Rattle.std.specs.Prelude.{◌≡◌, ◌⊎◌, ℕ, Bool, if◌then◌else◌, true, List, [], ◌∷◌, ◌++◌, Option, Some, Result, Ok, Err}
 use Rattle.serde_json.specs.Data.{Data}
 use Rattle.ice_store.specs.Files.{is_named}
 use Rattle.ice_store.specs.Others.{WhereTold}
@@ -19,6 +19,14 @@ use Rattle.commit_publish.specs.Stages.{InState}
 use Rattle.commit_versions.specs.Opening.{OpenStage}
 use Rattle.commit_protocol.specs.Meanings.{Meanings}
 use Rattle.commit_protocol.specs.Metadata.{table_rules}
+use Rattle.commit_protocol.specs.declared.change.Built.{Built}
+use Rattle.commit_protocol.specs.declared.change.Built.TheVariants.{Same as Unchanged, Next}
+use Rattle.commit_protocol.specs.declared.errors.AttemptErr.{AttemptErr}
+use Rattle.commit_protocol.specs.declared.errors.AttemptErr.TheVariants as attempts
+use Rattle.commit_protocol.specs.declared.errors.CommitErr.{CommitErr}
+use Rattle.commit_protocol.specs.declared.errors.CommitErr.TheVariants.{Open, Attempt, Contended, CommitUnknown}
+use Rattle.commit_protocol.specs.declared.errors.Committed.{Committed}
+use Rattle.commit_protocol.specs.declared.errors.Committed.TheVariants.{Same, Published}
 
 -- Steps.
 
@@ -74,3 +82,32 @@ GivesAll (id ∷ ids) before after = WhereTold after (λ values. (given : List �
 -- these were drawn, and behind them this one
 abbrev pub GivesLast : List ℕ → Option (List ℕ) → Option (List ℕ) → ℕ → Type 0
 GivesLast ids before after id = GivesAll (ids ++ id ∷ []) before after
+
+-- Answers that need nothing.
+
+-- nothing is to be changed, or the base is refused, or stands against the change
+abbrev pub IsSpare : Result Built AttemptErr → Type 0
+IsSpare (Ok Unchanged) = Unit {0}
+IsSpare (Ok (Next meta)) = ⊥
+IsSpare (Err (attempts.Refused refusal)) = Unit {0}
+IsSpare (Err (attempts.Conflict place other)) = Unit {0}
+IsSpare (Err (attempts.NameTaken place)) = ⊥
+IsSpare (Err (attempts.Read e)) = ⊥
+
+-- no file was made, and no identifier drawn
+pub record MakesNothing (meanings : Meanings) : Type 0 where
+  pub made : meanings.made ≡ []
+  pub draws : meanings.draws ≡ []
+
+-- where an attempt answers so, it made no file and drew no identifier
+abbrev pub SparesAll : Meanings → Result Built AttemptErr → Type 0
+SparesAll meanings result = IsSpare result → MakesNothing meanings
+
+-- a commit that ended with such an answer
+abbrev pub IsSpareEnd : Result Committed CommitErr → Type 0
+IsSpareEnd (Ok (Same version)) = Unit {0}
+IsSpareEnd (Ok (Published version)) = ⊥
+IsSpareEnd (Err (Open e)) = ⊥
+IsSpareEnd (Err (Attempt e)) = IsSpare (Err e)
+IsSpareEnd (Err (Contended version)) = ⊥
+IsSpareEnd (Err (CommitUnknown version)) = ⊥

@@ -18,7 +18,7 @@ use Rattle.commit_protocol.specs.Ends.{IsThat, WasOpened, Works}
 use Rattle.commit_protocol.specs.Kinds.{commit_end, kind_of}
 use Rattle.commit_protocol.specs.Meanings.{Meanings, only_successor}
 use Rattle.commit_protocol.specs.Metadata.{IsAt, OpenErrLeaves}
-use Rattle.commit_protocol.specs.Prepares.{GivesAll, Prepares}
+use Rattle.commit_protocol.specs.Prepares.{GivesAll, IsSpareEnd, MakesNothing, Prepares}
 use Rattle.commit_protocol.specs.Withdraws.{MadeNone, Withdrawn, lost_answer, lost_version}
 use Rattle.commit_protocol.specs.declared.opening.At.{At}
 use Rattle.commit_protocol.specs.declared.errors.AttemptErr.TheVariants as attempts
@@ -53,6 +53,7 @@ module _ (table : Parts) (allows : Past → Step → Type 0) (meanings : Meaning
   pub record AnsweredBy (at : At) (result : Result Committed CommitErr) (mark : Option Failure) (had has : List Parts) (old new : Past) : Type 0 where
     pub limit : HasVersionLimit (view at.meta)
     pub answer : AnswersSo at result
+    pub spare : IsSpareEnd result → MakesNothing meanings
     pub prepared : Prepares table allows meanings (view at.meta) (kind_of (commit_end result)) at.place mark old new
     pub met : meanings.met old new
     pub drawn : GivesAll meanings.draws given given'

@@ -1,5 +1,5 @@
 //! A change of a table, as a commit asks for it.
-ghost use Rattle.std.specs.Prelude.{◌≡◌, ◌≤◌, ◌<◌, ◌^◌, [], ◌++◌, Ok, IfOk, IfErr, OnOk};
+ghost use Rattle.std.specs.Prelude.{◌≡◌, ◌≤◌, [], ◌++◌, Ok, IfOk, IfErr, OnOk};
 ghost use Rattle.ice_store.specs.Others.{WhereTold};
 ghost use Rattle.ice_store.specs.Since.{Since};
 ghost use Rattle.serde_json.specs.Data.{Data as Tree};
@@ -15,7 +15,7 @@ ghost use Rattle.metadata_view.specs.View.{location_of};
 ghost use Rattle.ice_store.specs.Places.{place_in};
 ghost use Rattle.commit_protocol.specs.Attempts.{MakesOf};
 ghost use Rattle.commit_protocol.specs.Kinds.{attempted_kind};
-ghost use Rattle.commit_protocol.specs.Prepares.{GivesAll, Prepares};
+ghost use Rattle.commit_protocol.specs.Prepares.{GivesAll, Prepares, SparesAll};
 ghost use Rattle.commit_protocol.specs.Withdraws.{EndsInMade, LeavesUnmade, TellsWithdraw, Withdrawing, withdraw_kind};
 ghost use Rattle.commit_protocol.specs.declared.errors.AttemptErr.{AttemptErr as Refused};
 
@@ -43,7 +43,7 @@ pub trait Change<M: Manners> {
     ghost meanings: { Self → Self → Meanings };
 
     /// Builds the change on a base: the metadata `meta` that the version file at `base` spelled when it was read. The
-    /// metadata is given away, so that it can be changed in place. `now` is in milliseconds since 1970-01-01 UTC.
+    /// metadata is given away, so that it can be changed in place. The moment of an edit is the change's own.
     ///
     /// It may make files: it creates them under free names that are no version file's, appends to them and seals them, as
     /// `takes` says by its end, and removes and renames none. The log's `left` has them behind what it had, in order
@@ -57,12 +57,10 @@ pub trait Change<M: Manners> {
         table: &Place,
         base: &Place,
         meta: Meta,
-        now: u64,
         log: &mut Log,
     ) -> Result<Built, AttemptErr>
         requires mannered { IsMannered (table_rules table.now (M.allows (S.manners store.old))) }
         requires start { WhereTold (S.past store.old) (InState (OpenStage (number_in table.now) base.now)) }
-        requires moment { now < 2 ^ 63 }
         requires here { place_in (location_of (view meta)) ≡ Ok table.now }
         requires opened { WhereTold (S.past store.old) (InState (HasMetadataAt table.now base.now (view meta))) }
         ensures told { Since (S.past store.old) (S.past store.new) (Prepares table.now (M.allows (S.manners store.old)) (meanings self.old self.new) (view meta) (attempted_kind result) base.now (S.halted store.new)) }
@@ -70,6 +68,7 @@ pub trait Change<M: Manners> {
         ensures built { IfOk result (MakesOf (meanings self.old self.new) (view meta)) }
         ensures seen { OnOk result ((meanings self.old self.new).seen (view meta)) }
         ensures refused { IfErr result ((meanings self.old self.new).refuses (view meta)) }
+        ensures spare { SparesAll (meanings self.old self.new) result }
         ensures keeps_successor { (a b : Tree) → (meanings self.new self.new).successor a b → (meanings self.old self.new).successor a b }
         ensures keeps_same { (a : Tree) → (meanings self.new self.new).same a → (meanings self.old self.new).same a }
         ensures keeps_refuses { (a : Tree) (e : Refused) → (meanings self.new self.new).refuses a e → (meanings self.old self.new).refuses a e }

@@ -264,7 +264,7 @@ fn attempt_once<M: Manners, S: Store<M>, I: Ids, X: Change<M>>(
     };
     let base = parts.base;
     let count = log.left.len();
-    match change.attempt::<S, I>(alloc, store, ids, table, &base.place, parts.meta, now, log) {
+    match change.attempt::<S, I>(alloc, store, ids, table, &base.place, parts.meta, log) {
         Ok(Built::Next(meta)) => {
             let ended = publish_built::<M, S, I>(alloc, store, ids, now, table, base, meta, log);
             settle_left(log, count, &ended);

@@ -10,9 +10,9 @@ use Rattle.commit_protocol.specs.declared.errors.AttemptErr.{AttemptErr}
 use Rattle.commit_protocol.specs.declared.errors.AttemptErr.TheVariants.{Refused, Conflict, NameTaken, Read}
 use Rattle.commit_protocol.specs.Meanings.{Meanings, looking}
 
--- the second metadata is the first with `main` at the snapshot, at some moment
-abbrev pub HasMain : ℤ → Data → Data → Type 0
-HasMain id tree next = (ms : ℕ) × (next ≡ with_ref (codes "main") id ms tree)
+-- the second metadata is the first with `main` at the snapshot, at this moment
+abbrev pub HasMain : ℤ → ℕ → Data → Data → Type 0
+HasMain id now tree next = next ≡ with_ref (codes "main") id now tree
 
 -- the table has no such snapshot, or memory runs out
 abbrev pub RefusesMain : ℤ → Data → AttemptErr → Type 0
@@ -26,5 +26,5 @@ RefusesMain id tree (Read (StoreFault place)) = ⊥
 RefusesMain id tree (Read Memory) = Unit {0}
 
 -- a change that sets `main` to a snapshot, also where it is there already
-abbrev pub sets_main : ℤ → Meanings
-sets_main id = looking (HasMain id) (λ tree. ⊥) (RefusesMain id) (λ tree. Unit {0})
+abbrev pub sets_main : ℤ → ℕ → Meanings
+sets_main id now = looking (HasMain id now) (λ tree. ⊥) (RefusesMain id) (λ tree. Unit {0})

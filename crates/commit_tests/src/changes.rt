@@ -13,10 +13,13 @@ use table_metadata::Meta;
 #[derive(Drop)]
 pub(crate) struct SetMain {
     pub(crate) id: i64,
+    /// Milliseconds since 1970-01-01 UTC.
+    pub(crate) now: u64,
+    ghost moment: { now < 2 ^ 63 },
 }
 
 impl<M: Manners> Change<M> for SetMain {
-    ghost meanings = { λ r s. sets_main r.id };
+    ghost meanings = { λ r s. sets_main r.id r.now };
 
     fn attempt<S: Store<M>, I: Ids>(
         &mut self,
@@ -26,10 +29,9 @@ impl<M: Manners> Change<M> for SetMain {
         _table: &Place,
         _base: &Place,
         meta: Meta,
-        now: u64,
         _log: &mut Log,
     ) -> Result<Built, AttemptErr> {
-        let built = with_main(alloc, meta, self.id, now)?;
+        let built = with_main(alloc, meta, self.id, self.now)?;
         Ok(Built::Next(built))
     }
 

@@ -12,6 +12,9 @@ use std::alloc::{AllocError, Global};
 use std::test::Fail;
 use store_memory::{Choice, CountIds, MemStore, Neighbour, Quiet};
 
+// the moment of each commit, in milliseconds since 1970
+const NOW: u64 = 9000;
+
 /// What a commit left.
 #[derive(Drop)]
 struct Raced<N> {
@@ -44,13 +47,13 @@ fn commit_beside<N: Neighbour<Writers> + Drop>(
         left: Vec::new(alloc),
     };
     let mut ids = CountIds::new();
-    let mut change = SetMain { id: 11 };
+    let mut change = SetMain { id: 11, now: NOW };
     table_is_mannered::<Metadata>(table);
     let answer = commit::<Writers, MemStore<N>, CountIds, SetMain>(
         alloc,
         &mut store,
         &mut ids,
-        9000,
+        NOW,
         table,
         &mut change,
         &mut log,

@@ -71,7 +71,6 @@ impl<M: Manners> Change<M> for RefMove {
         _table: &Place,
         _base: &Place,
         meta: Meta,
-        _now: u64,
         _log: &mut Log,
     ) -> Result<Built, AttemptErr> {
         let moved = move_on(alloc, meta, &self.goal, self.now)?;

@@ -18,7 +18,7 @@ use Rattle.commit_versions.specs.Opening.{OpenStage, FileIs}
 use Rattle.commit_protocol.specs.Attempts.{MakesOf}
 use Rattle.commit_protocol.specs.Ends.{LeavesBy, LeavesPublished, PublishedWorks}
 use Rattle.commit_protocol.specs.Kinds.{attempt_kind, commit_end, kind_of, commit_kind}
-use Rattle.commit_protocol.specs.Prepares.{GivesLast, Prepares}
+use Rattle.commit_protocol.specs.Prepares.{GivesLast, Prepares, SparesAll}
 use Rattle.commit_protocol.specs.Rounds.{AttemptTells, left_after}
 use Rattle.commit_protocol.specs.Metadata.{HasMetadataAt}
 use Rattle.commit_protocol.specs.Written.{PublishedLeaves}
@@ -176,6 +176,7 @@ returns-in-Ok-Same-clause-told g c =
     (λ old new a. inr (inl (record {
       limit = limit;
       answer = (on.version_is, same, seen);
+      spare = λ same_end. subst (λ (b : Built). SparesAll meanings (Ok b)) c.in-Ok-Same.field-0-is c.in-Ok-Same.ensures.spare tt;
       prepared = rounds.prepares_at t allows meanings given asked c.args.now (view meta) (view at.meta) base.place at.place kinds.Done mark old new tree on.place_is a.0;
       met = a.1;
       drawn = c.in-Ok-Same.ensures.drawn;
@@ -208,6 +209,7 @@ returns-in-Err-clause-told g c =
     (λ old new a. inr (inl (record {
       limit = limit;
       answer = refused;
+      spare = c.in-Err.ensures.spare;
       prepared = rounds.prepares_at t allows meanings given asked c.args.now (view meta) (view at.meta) base.place at.place (attempt_kind e) mark old new tree on.place_is a.0;
       met = a.1;
       drawn = c.in-Err.ensures.drawn;

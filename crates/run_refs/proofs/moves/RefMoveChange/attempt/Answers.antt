@@ -1,4 +1,4 @@
-use Rattle.std.proofs.Common.{sym, append-nil, rules}
+use Rattle.std.proofs.Common.{refl, sym, append-nil, rules}
 use Rattle.serde_json.specs.View.{view}
 use Rattle.commit_protocol.proofs.RoundLaws.{looks_by, met_nothing, told_nothing}
 use Rattle.run_refs.specs.Moves.{HasSeen, IsThere, Moves, RefusesMove}
@@ -25,3 +25,9 @@ returns-in_err-moved-clause-left g c = sym (append-nil c.args._log.now.left.item
 
 pub returns-clause-left : goal.returns-clause-left
 returns-clause-left g c = sym (append-nil c.args._log.now.left.items)
+
+pub returns-in_err-moved-clause-spare : goal.returns-in_err-moved-clause-spare
+returns-in_err-moved-clause-spare g c spare = record { made = refl; draws = refl }
+
+pub returns-clause-spare : goal.returns-clause-spare
+returns-clause-spare g c spare = record { made = refl; draws = refl }
