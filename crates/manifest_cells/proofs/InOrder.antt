@@ -40,3 +40,16 @@ all_read xs ys n a b e = sym (take_all n xs a) ∙ e ∙ take_all n ys b
 -- A column that doesn't fit.
 pub not_at : (ks : List Kind) (ss : List Slot) (ds : List Datum) (k : Kind) (s : Slot) (n : ℕ) (xs : List Cell) → n < length ks → n < length ss → s ≡ get_or ss n s → (slice_get xs n ≡ Some (cell (get_or ks n k) s ds) → ⊥) → slice_get xs n ≡ slice_get (cells_of ks ss ds) n → ⊥
 not_at ks ss ds k s n xs a b at not e = not (e ∙ cell_at ks ss ds k s n a b ∙ sym (ap (λ (t : Slot). Some (cell (get_or ks n k) t ds)) at))
+
+pub same_some : {A : Type 0} {x y : A} → Some x ≡ Some y → x ≡ y
+same_some e = cc
+
+take_next : {A : Type 0} (fs : List A) (n : ℕ) (d : A) → slice_get fs n ≡ Some d → take (suc n) fs ≡ take n fs ++ d ∷ []
+take_next [] zero d e = absurd cc
+take_next [] (suc n) d e = absurd cc
+take_next (x ∷ xs) zero d e = ap (λ y. y ∷ []) (same_some e)
+take_next (x ∷ xs) (suc n) d e = ap (λ ys. x ∷ ys) (take_next xs n d e)
+
+-- One more field is written.
+pub one_more : {A : Type 0} (fs : List A) (n m : ℕ) (xs ys : List A) (d : A) → m ≡ suc n → xs ≡ take n fs → slice_get fs n ≡ Some d → ys ≡ xs ++ d ∷ [] → ys ≡ take m fs
+one_more fs n m xs ys d next so_far at is = is ∙ ap (λ zs. zs ++ d ∷ []) so_far ∙ sym (take_next fs n d at) ∙ sym (ap (λ k. take k fs) next)

@@ -98,23 +98,6 @@ pub fn set_optional_int(found: Option<&Datum>, to: &mut Option<i32>) -> bool
     }
 }
 
-/// A long that may lack.
-pub fn set_optional_long(found: Option<&Datum>, to: &mut Option<i64>) -> bool
-    ensures { SetsValue (option_map of_long) (option_copied found.entry) result to.new }
-{
-    match found {
-        None => {
-            *to = None;
-            true
-        }
-        Some(Datum::Long(n)) => {
-            *to = Some(*n);
-            true
-        }
-        _ => false,
-    }
-}
-
 /// A string that may lack.
 pub fn set_optional_text(found: Option<&Datum>, to: &mut Option<Text>) -> Result<bool, AllocError>
     ensures { IfOk result (λ fits. SetsValue (option_map of_str) (option_copied found.entry) fits to.new) }

@@ -4,13 +4,14 @@ ghost use Rattle.std.specs.Prelude.{◌≡◌, Some, IfOk, length};
 ghost use Rattle.std.specs.Option.{option_copied, option_map};
 ghost use Rattle.avro_datum.specs.declared.datum.Datum.TheVariants.{Int as of_int, Long as of_long};
 ghost use Rattle.manifest_cells.specs.Cells.{Reads, held};
-ghost use Rattle.manifest_files.specs.Files.{OnBad, ReadsFile};
+ghost use Rattle.manifest_cells.specs.FieldErrors.{OnBadField};
+ghost use Rattle.manifest_files.specs.Files.{ReadsFile};
 ghost use Rattle.manifest_entries.specs.Entries.{NoEntry, ReadsEntry, found_fields, status_number};
 
 use crate::entry::{Entry, EntrySlots, EntryStatus};
 use avro_datum::Datum;
-use manifest_cells::{fields_in, held};
-use manifest_files::{DataFile, FieldErr, file_of};
+use manifest_cells::{FieldErr, fields_in, held, optional_long_of};
+use manifest_files::{DataFile, file_of};
 use std::alloc::Global;
 
 fn status_of(found: Option<&Datum>) -> Option<EntryStatus>
@@ -31,21 +32,11 @@ fn status_at(items: &[Datum], place: Option<usize>) -> Option<EntryStatus>
     status_of(found)
 }
 
-fn number_of(found: Option<&Datum>) -> Option<Option<i64>>
-    ensures { Reads (option_map of_long) (option_copied found.entry) result }
-{
-    match found {
-        None => Some(None),
-        Some(Datum::Long(n)) => Some(Some(*n)),
-        _ => None,
-    }
-}
-
 fn number_at(items: &[Datum], place: Option<usize>) -> Option<Option<i64>>
     ensures { Reads (option_map of_long) (held items.now place) result }
 {
     let found = held(items, place);
-    number_of(found)
+    optional_long_of(found)
 }
 
 fn found_fields(found: Option<&Datum>) -> &[Datum]
@@ -110,7 +101,7 @@ pub fn entry_of(
     ensures exact { ReadsEntry slots.now items.now result }
     ensures at { IfOk result (λ entry. entry.at ≡ at) }
     // A field is refused only where the record stands for no entry.
-    ensures none { OnBad result (NoEntry slots.now items.now) }
+    ensures none { OnBadField result (NoEntry slots.now items.now) }
 {
     let mut entry = entry_in(alloc, slots, items)?;
     entry.at = at;

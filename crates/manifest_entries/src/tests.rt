@@ -3,11 +3,10 @@
 use super::*;
 use avro_datum::{Datum, decode};
 use avro_schema::Schema;
-use manifest_cells::optional_long;
+use manifest_cells::{FieldErr, optional_long};
 use manifest_columns::{
     RecordName, written_data_file_columns, written_entry_columns, written_fields, written_record,
 };
-use manifest_files::FieldErr;
 use sqlite_items::Items;
 use std::alloc::{AllocError, Global};
 use std::test::Fail;

@@ -10,11 +10,11 @@ use Rattle.manifest_columns.specs.declared.column.Kind.TheVariants.{Record}
 use Rattle.manifest_columns.specs.declared.slots.Slot.{Slot}
 use Rattle.manifest_columns.specs.Tables.{data_file_columns}
 use Rattle.manifest_cells.specs.Cells.{Cell, single, cell, held, listed_as, int_long_cells, int_bytes_cells, long_array, int_array}
+use Rattle.manifest_cells.specs.declared.field_err.FieldErr.{FieldErr}
+use Rattle.manifest_cells.specs.declared.field_err.FieldErr.TheVariants as errors
 use Rattle.manifest_files.specs.declared.file.Content.{Content}
 use Rattle.manifest_files.specs.declared.file.Content.TheVariants.{Rows, Positions, Equalities}
 use Rattle.manifest_files.specs.declared.file.DataFile.{DataFile}
-use Rattle.manifest_files.specs.declared.file.FieldErr.{FieldErr}
-use Rattle.manifest_files.specs.declared.file.FieldErr.TheVariants as errors
 use Rattle.manifest_files.specs.declared.partition.PartSlot.{PartSlot}
 use Rattle.manifest_files.specs.Partitions.{partition_in}
 
@@ -88,12 +88,6 @@ abbrev pub ReadsFile : List Slot → List PartSlot → List Datum → Result Dat
 ReadsFile slots parts ds (Ok file) = IsFile slots parts ds file
 ReadsFile slots parts ds (Err errors.Memory) = Unit {0}
 ReadsFile slots parts ds (Err (errors.BadField id)) = IsBadFileAt slots parts ds id
-
--- What holds of a refusal that isn't want of memory.
-abbrev pub OnBad : {A : Type 0} → Result A FieldErr → Type 0 → Type 0
-OnBad (Ok x) P = Unit {0}
-OnBad (Err errors.Memory) P = Unit {0}
-OnBad (Err (errors.BadField id)) P = P
 
 -- The field of a data file with this number was set to what the cell says, or no data file's is.
 abbrev pub FillsFile : ℕ → Cell → DataFile → Bool → DataFile → Type 0

@@ -4,15 +4,15 @@ ghost use Rattle.std.specs.Prelude.{◌≡◌, ◌<◌, Some, IfOk, get_or, leng
 ghost use Rattle.std.specs.List.{slice_get};
 ghost use Rattle.manifest_columns.specs.declared.column.Kind.TheVariants as kinds;
 ghost use Rattle.manifest_cells.specs.Cells.{Sets, held, int_bytes_cells, int_long_cells, listed_as, records_in};
-ghost use Rattle.manifest_files.specs.Files.{FillsFile, NoFile, OnBad, ReadsFile, file_cell, file_ids, file_kinds};
+ghost use Rattle.manifest_files.specs.Files.{FillsFile, ReadsFile, file_cell, file_ids, file_kinds};
 
 use crate::content::set_file_content;
-use crate::file::{Content, DataFile, FieldErr};
+use crate::file::{Content, DataFile};
 use crate::partition::{PartSlot, set_partition};
 use avro_datum::Datum;
 use avro_schema::Text;
 use manifest_cells::{
-    IntBytesList, IntLongList, held, set_count, set_int_bytes, set_int_longs, set_ints, set_longs,
+    FieldErr, IntBytesList, IntLongList, held, set_count, set_int_bytes, set_int_longs, set_ints, set_longs,
     set_optional_bytes, set_optional_int, set_optional_text, set_text,
 };
 use manifest_columns::{Slot, data_file_columns};

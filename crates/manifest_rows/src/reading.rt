@@ -4,14 +4,15 @@ ghost use Rattle.std.specs.Prelude.{◌≡◌, ◌<◌, Some, IfOk, get_or, leng
 ghost use Rattle.std.specs.List.{slice_get};
 ghost use Rattle.manifest_columns.specs.declared.column.Kind.TheVariants as kinds;
 ghost use Rattle.manifest_cells.specs.Cells.{cell};
-ghost use Rattle.manifest_rows.specs.Rows.{Fills, NoRow, OnBadField, Reads, row_ids, row_kinds, row_slots};
+ghost use Rattle.manifest_cells.specs.FieldErrors.{OnBadField};
+ghost use Rattle.manifest_rows.specs.Rows.{Fills, NoRow, Reads, row_ids, row_kinds, row_slots};
 
-use crate::row::{ManifestRow, RowErr};
+use crate::row::ManifestRow;
 use crate::summaries::set_summaries;
 use avro_datum::Datum;
 use avro_schema::{Field, Text};
 use manifest_cells::{
-    held, set_content, set_count, set_int, set_long, set_optional_bytes, set_text,
+    FieldErr, held, set_content, set_count, set_int, set_long, set_optional_bytes, set_text,
 };
 use manifest_columns::{Slot, SlotList, row_columns, slots_of};
 use std::alloc::{AllocError, Global};
@@ -79,7 +80,7 @@ fn id_at(place: usize) -> i32
 }
 
 #[tactic(auto, using(crate::proofs::Order::all_filled))]
-fn filled(alloc: Global, slots: &[Slot], items: &[Datum]) -> Result<ManifestRow, RowErr>
+fn filled(alloc: Global, slots: &[Slot], items: &[Datum]) -> Result<ManifestRow, FieldErr>
     requires { length slots.now ≡ 15 }
     ensures { Reads slots.now items.now result }
 {
@@ -87,7 +88,7 @@ fn filled(alloc: Global, slots: &[Slot], items: &[Datum]) -> Result<ManifestRow,
     for place in 0..slots.len() {
         let fits = fill(alloc, place, &slots[place], items, &mut row)?;
         if !fits {
-            return Err(RowErr::BadField(id_at(place)));
+            return Err(FieldErr::BadField(id_at(place)));
         }
     }
     Ok(row)
@@ -111,7 +112,7 @@ pub fn row_of(
     slots: &[Slot],
     items: &[Datum],
     at: usize,
-) -> Result<ManifestRow, RowErr>
+) -> Result<ManifestRow, FieldErr>
     requires { length slots.now ≡ 15 }
     // Exactly the row whose fields the record holds, or the first column that holds none.
     ensures exact { Reads slots.now items.now result }
