@@ -1,5 +1,5 @@
 -- Which data file a record of a manifest stands for (Apache Iceberg specification, "Manifests").
-use Rattle.std.specs.Prelude.{◌≡◌, ℕ, ℤ, pos, List, [], ◌∷◌, map, take, set, Result, Ok, Err, Some, Bool, true, false}
+use Rattle.std.specs.Prelude.{◌≡◌, ◌<◌, ◌^◌, ℕ, ℤ, pos, List, [], ◌∷◌, map, take, set, Result, Ok, Err, Some, Bool, true, false}
 use Rattle.std.specs.Option.{option_map}
 use Rattle.std.specs.List.{slice_get}
 use Rattle.avro_datum.specs.declared.datum.Datum.{Datum}
@@ -88,6 +88,10 @@ abbrev pub ReadsFile : List Slot → List PartSlot → List Datum → Result Dat
 ReadsFile slots parts ds (Ok file) = IsFile slots parts ds file
 ReadsFile slots parts ds (Err errors.Memory) = Unit {0}
 ReadsFile slots parts ds (Err (errors.BadField id)) = IsBadFileAt slots parts ds id
+
+-- The counts of the data file are such as a long has.
+abbrev pub CountsFit : DataFile → Type 0
+CountsFit file = (file.record_count < 2 ^ 63) × (file.file_size_in_bytes < 2 ^ 63)
 
 -- The field of a data file with this number was set to what the cell says, or no data file's is.
 abbrev pub FillsFile : ℕ → Cell → DataFile → Bool → DataFile → Type 0
