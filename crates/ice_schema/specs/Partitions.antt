@@ -31,6 +31,7 @@ pub record IsPartField (schemas : List Schema) (f : SpecField) (p : PartField) :
   pub is_result : result_type f.transform source ≡ Some p.ty
   pub same_id : p.field_id ≡ f.field_id
   pub same_name : p.name ≡ f.name
+  pub same_transform : p.transform ≡ f.transform
 
 -- the fields of the partition type are those of the spec, in order
 abbrev pub ArePartFields : List Schema → List SpecField → List PartField → Type 0

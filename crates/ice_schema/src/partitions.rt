@@ -11,7 +11,7 @@ use schema_types::{
 use sqlite_items::Items;
 use std::alloc::{AllocError, Global};
 
-/// The type of a spec's partition values: its fields in order, each with the type that its transform
+/// The type of a spec's partition values: its fields in order, each with its transform and the type that this
 /// gives of its source column's type. That column is taken from the schema with the greatest id that has it.
 ///
 /// `Transform` comes exactly where a transform is unknown, or a source column is in no schema.
@@ -53,6 +53,7 @@ fn part_field(alloc: Global, field: &SpecField, schemas: &[Schema]) -> Result<Pa
         field_id: field.field_id,
         name: field.name.copy()?,
         ty,
+        transform: field.transform,
     })
 }
 

@@ -1,52 +1,22 @@
 // Members of a JSON object that must be there.
-ghost use Rattle.std.specs.Prelude.{◌≡◌, option_map, option_and_then};
-ghost use Rattle.serde_json.specs.View.{view, items_view};
-ghost use Rattle.serde_json.specs.Find.{get, as_array};
-ghost use Rattle.avro_schema.specs.Attribute.{text_at, id_at, narrow_signed};
+ghost use Rattle.std.specs.Prelude.{◌≡◌};
+ghost use Rattle.serde_json.specs.View.{view};
 ghost use Rattle.schema_trees.specs.Ids.{is_seen};
 ghost use Rattle.schema_trees.specs.Reading.{Gives, Reads, int_in, text_in, new_id};
 ghost use Rattle.schema_trees.specs.TypeReading.{flag_in};
 
 use crate::fault::JsonErr;
 use crate::path::fault_at;
-use avro_schema::Text;
+use avro_schema::{Text, id_at, text_at};
 use serde_json::Value;
 use std::alloc::Global;
-
-pub(crate) fn text_at<'v>(tree: &'v Value, key: &str) -> Option<&'v str>
-    ensures { option_map (λ t. t.now) result ≡ text_at key.now (view tree.now) }
-{
-    tree.get(key).and_then(Value::as_str)
-}
-
-pub(crate) fn array_at<'v>(tree: &'v Value, key: &str) -> Option<&'v Vec<Value>>
-    ensures { option_map (λ v. items_view v.now.items) result
-        ≡ option_and_then as_array (get key.now (view tree.now)) }
-{
-    tree.get(key).and_then(Value::as_array)
-}
-
-fn narrow_signed(n: i64) -> Option<i32>
-    ensures { result ≡ narrow_signed n }
-{
-    i32::try_from(n).ok()
-}
-
-#[tactic(auto, unfolding(avro_schema::specs::Attribute::id_at))]
-fn int_at(tree: &Value, key: &str) -> Option<i32>
-    ensures { result ≡ id_at key.now (view tree.now) }
-{
-    tree.get(key)
-        .and_then(Value::as_i64)
-        .and_then(narrow_signed)
-}
 
 /// A whole number of 32 bits.
 #[tactic(auto, unfolding(crate::specs::Reading::int_in))]
 pub(crate) fn int_in(alloc: Global, tree: &Value, path: &str, key: &str) -> Result<i32, JsonErr>
     ensures { Gives result (int_in path.now key.now (view tree.now)) }
 {
-    match int_at(tree, key) {
+    match id_at(tree, key) {
         Some(n) => Ok(n),
         None => Err(fault_at(alloc, path, key)),
     }

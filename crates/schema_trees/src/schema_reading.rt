@@ -4,10 +4,11 @@ ghost use Rattle.serde_json.specs.View.{view, items_view};
 ghost use Rattle.schema_trees.specs.Reading.{Gives, Reads, each};
 ghost use Rattle.schema_trees.specs.TypeReading.{inner_at, list_at, map_at, column_at, struct_at, object_at, word_at, level, read, schema_of};
 
-use crate::attribute::{array_at, flag_in, int_in, new_id, text_at, text_in};
+use crate::attribute::{flag_in, int_in, new_id, text_in};
 use crate::fault::JsonErr;
-use crate::path::{fault, fault_at, index_path, key_path};
+use crate::path::{fault, fault_at};
 use crate::type_words::primitive;
+use avro_schema::{array_at, index_path, key_path, text_at};
 use schema_types::{ColType, Column, ColumnList, Schema};
 use serde_json::Value;
 use sqlite_items::{Boxed, Items};

@@ -5,15 +5,10 @@ ghost use Rattle.serde_json.specs.View.{view, members_view};
 ghost use Rattle.schema_trees.specs.TypeWriting.{fixed_text, decimal_text, struct_tree, list_tree, map_tree, column_object, type_tree, column_tree, written_schema};
 
 use crate::spec_writing::put_int;
+use avro_schema::{put_text, string};
 use schema_types::{ColType, Column, Schema};
 use serde_json::{Map, Value};
 use std::alloc::{AllocError, Global};
-
-fn word(alloc: Global, text: &str) -> Result<Value, AllocError>
-    ensures { IfOk result (λ v. view v ≡ string text.now) }
-{
-    Ok(Value::String(String::from_str(alloc, text)?))
-}
 
 #[tactic(auto, unfolding(crate::specs::TypeWriting::fixed_text))]
 fn fixed_text(alloc: Global, length: u32) -> Result<Value, AllocError>
@@ -40,24 +35,12 @@ fn put_flag(
     serde_json::put(members, alloc, key, Value::from(flag))
 }
 
-fn put_word(
-    members: &mut Map<String, Value>,
-    alloc: Global,
-    key: &str,
-    text: &str,
-) -> Result<(), AllocError>
-    ensures { OnOk result (members_view members.new.entries ≡ put key.now (string text.now) (members_view members.old.entries)) }
-{
-    let value = word(alloc, text)?;
-    serde_json::put(members, alloc, key, value)
-}
-
 #[tactic(auto, unfolding(crate::specs::TypeWriting::struct_tree))]
 fn struct_tree(alloc: Global, fields: Vec<Value>) -> Result<Value, AllocError>
     ensures { IfOk result (λ v. view v ≡ struct_tree (map view fields.items)) }
 {
     let mut members = Map::new(alloc);
-    put_word(&mut members, alloc, "type", "struct")?;
+    put_text(&mut members, alloc, "type", "struct")?;
     serde_json::put(&mut members, alloc, "fields", Value::Array(fields))?;
     Ok(Value::Object(members))
 }
@@ -72,7 +55,7 @@ fn list_tree(
     ensures { IfOk result (λ v. view v ≡ list_tree element_id required (view element)) }
 {
     let mut members = Map::new(alloc);
-    put_word(&mut members, alloc, "type", "list")?;
+    put_text(&mut members, alloc, "type", "list")?;
     serde_json::put(&mut members, alloc, "element", element)?;
     put_int(&mut members, alloc, "element-id", element_id)?;
     put_flag(&mut members, alloc, "element-required", required)?;
@@ -91,7 +74,7 @@ fn map_tree(
     ensures { IfOk result (λ v. view v ≡ map_tree key_id (view key) value_id required (view value)) }
 {
     let mut members = Map::new(alloc);
-    put_word(&mut members, alloc, "type", "map")?;
+    put_text(&mut members, alloc, "type", "map")?;
     serde_json::put(&mut members, alloc, "key", key)?;
     put_int(&mut members, alloc, "key-id", key_id)?;
     serde_json::put(&mut members, alloc, "value", value)?;
@@ -112,7 +95,7 @@ fn column_object(
 {
     let mut members = Map::new(alloc);
     put_int(&mut members, alloc, "id", id)?;
-    put_word(&mut members, alloc, "name", name)?;
+    put_text(&mut members, alloc, "name", name)?;
     put_flag(&mut members, alloc, "required", required)?;
     serde_json::put(&mut members, alloc, "type", ty)?;
     Ok(Value::Object(members))
@@ -123,20 +106,20 @@ fn write_type(alloc: Global, ty: &ColType) -> Result<Value, AllocError>
     ensures { IfOk result (λ v. view v ≡ type_tree ty.now) }
 {
     match ty {
-        ColType::Boolean => word(alloc, "boolean"),
-        ColType::Int => word(alloc, "int"),
-        ColType::Long => word(alloc, "long"),
-        ColType::Float => word(alloc, "float"),
-        ColType::Double => word(alloc, "double"),
+        ColType::Boolean => string(alloc, "boolean"),
+        ColType::Int => string(alloc, "int"),
+        ColType::Long => string(alloc, "long"),
+        ColType::Float => string(alloc, "float"),
+        ColType::Double => string(alloc, "double"),
         ColType::Decimal { precision, scale } => decimal_text(alloc, *precision, *scale),
-        ColType::Date => word(alloc, "date"),
-        ColType::Time => word(alloc, "time"),
-        ColType::Timestamp => word(alloc, "timestamp"),
-        ColType::Timestamptz => word(alloc, "timestamptz"),
-        ColType::Str => word(alloc, "string"),
-        ColType::Uuid => word(alloc, "uuid"),
+        ColType::Date => string(alloc, "date"),
+        ColType::Time => string(alloc, "time"),
+        ColType::Timestamp => string(alloc, "timestamp"),
+        ColType::Timestamptz => string(alloc, "timestamptz"),
+        ColType::Str => string(alloc, "string"),
+        ColType::Uuid => string(alloc, "uuid"),
         ColType::Fixed(length) => fixed_text(alloc, *length),
-        ColType::Binary => word(alloc, "binary"),
+        ColType::Binary => string(alloc, "binary"),
         ColType::Struct(columns) => {
             let fields = write_columns(alloc, columns.as_slice())?;
             struct_tree(alloc, fields)
@@ -183,6 +166,6 @@ pub(crate) fn tree_of(alloc: Global, schema: &Schema) -> Result<Value, AllocErro
     let mut members = Map::new(alloc);
     serde_json::put(&mut members, alloc, "fields", Value::Array(fields))?;
     put_int(&mut members, alloc, "schema-id", schema.id)?;
-    put_word(&mut members, alloc, "type", "struct")?;
+    put_text(&mut members, alloc, "type", "struct")?;
     Ok(Value::Object(members))
 }

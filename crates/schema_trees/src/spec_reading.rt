@@ -3,10 +3,11 @@ ghost use Rattle.std.specs.Prelude.{◌≡◌};
 ghost use Rattle.serde_json.specs.View.{view, items_view};
 ghost use Rattle.schema_trees.specs.Reading.{Gives, Reads, each, field_at, spec_of};
 
-use crate::attribute::{array_at, int_in, new_id, text_at, text_in};
+use crate::attribute::{int_in, new_id, text_in};
 use crate::fault::JsonErr;
-use crate::path::{fault, fault_at, index_path};
+use crate::path::{fault, fault_at};
 use crate::words::transform_of;
+use avro_schema::{array_at, index_path, text_at};
 use schema_types::{Spec, SpecField, SpecFieldList};
 use serde_json::Value;
 use sqlite_items::Items;

@@ -1,9 +1,10 @@
 // The tree that is written for a partition spec.
 ghost use Rattle.std.specs.Prelude.{◌≡◌, ◌++◌, map, IfOk, OnOk, string_bytes};
-ghost use Rattle.serde_json.specs.Data.{put, string};
+ghost use Rattle.serde_json.specs.Data.{put};
 ghost use Rattle.serde_json.specs.View.{view, members_view};
 ghost use Rattle.schema_trees.specs.Writing.{transform_text, int_tree, field_tree, written_spec};
 
+use avro_schema::put_text;
 use schema_types::{Spec, SpecField, Transform};
 use serde_json::{Map, Value};
 use std::alloc::{AllocError, Global};
@@ -24,17 +25,6 @@ fn transform_text(alloc: Global, transform: Transform) -> Result<String, AllocEr
     }
 }
 
-fn put_text(
-    members: &mut Map<String, Value>,
-    alloc: Global,
-    key: &str,
-    text: String,
-) -> Result<(), AllocError>
-    ensures { OnOk result (members_view members.new.entries ≡ put key.now (string (string_bytes text)) (members_view members.old.entries)) }
-{
-    serde_json::put(members, alloc, key, Value::String(text))
-}
-
 pub(crate) fn put_int(
     members: &mut Map<String, Value>,
     alloc: Global,
@@ -52,14 +42,10 @@ fn field_tree(alloc: Global, field: &SpecField) -> Result<Value, AllocError>
 {
     let mut members = Map::new(alloc);
     put_int(&mut members, alloc, "field-id", field.field_id)?;
-    put_text(&mut members, alloc, "name", field.name.copy()?.into_inner())?;
+    put_text(&mut members, alloc, "name", field.name.as_str())?;
     put_int(&mut members, alloc, "source-id", field.source_id)?;
-    put_text(
-        &mut members,
-        alloc,
-        "transform",
-        transform_text(alloc, field.transform)?,
-    )?;
+    let transform = transform_text(alloc, field.transform)?;
+    put_text(&mut members, alloc, "transform", transform.as_str())?;
     Ok(Value::Object(members))
 }
 

@@ -190,6 +190,7 @@ impl PartField {
             field_id: self.field_id,
             name: self.name.copy()?,
             ty,
+            transform: self.transform,
         })
     }
 }

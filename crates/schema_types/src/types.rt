@@ -111,12 +111,15 @@ pub struct PartField {
     pub field_id: i32,
     pub name: Text,
     pub ty: ColType,
+    /// How its values are made. A manifest may have those of `Day` as plain ints, and those of `Void` count as null.
+    pub transform: Transform,
 }
 
 /// Fields of a partition type, in order.
 pub type PartFieldList = Items<PartField>;
 
-/// The type of a spec's partition values: the spec's fields in order, each with the type of its values.
+/// The type of a spec's partition values: the spec's fields in order, each with the type of its values and how they are
+/// made.
 #[derive(Debug, Drop)]
 pub struct PartType {
     pub fields: PartFieldList,
