@@ -13,8 +13,8 @@ use crate::partition::{PartSlot, set_partition};
 use avro_datum::Datum;
 use avro_schema::Text;
 use manifest_cells::{
-    FieldErr, IntBytesList, IntLongList, held, set_count, set_int_bytes, set_int_longs, set_ints, set_longs,
-    set_optional_bytes, set_optional_int, set_optional_text, set_text,
+    FieldErr, IntBytesList, IntLongList, held, set_count, set_int_bytes, set_int_longs, set_ints,
+    set_longs, set_optional_bytes, set_optional_int, set_optional_text, set_text,
 };
 use manifest_columns::{Slot, data_file_columns};
 use std::alloc::{AllocError, Global};
