@@ -8,8 +8,6 @@ mod pairs;
 mod places;
 mod reading;
 mod setting;
-#[cfg(test)]
-mod tests;
 mod writing;
 mod written_lists;
 

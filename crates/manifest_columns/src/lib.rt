@@ -9,8 +9,6 @@ mod places;
 mod shapes;
 mod slots;
 mod tables;
-#[cfg(test)]
-mod tests;
 mod written;
 
 pub use column::{Column, Kind};

@@ -6,8 +6,6 @@ mod content;
 mod file;
 mod partition;
 mod reading;
-#[cfg(test)]
-mod tests;
 mod writing;
 
 pub use file::{Content, DataFile};

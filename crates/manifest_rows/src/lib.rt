@@ -5,8 +5,6 @@
 mod reading;
 mod row;
 mod summaries;
-#[cfg(test)]
-mod tests;
 mod writing;
 
 pub use reading::{row_of, row_slots};

@@ -1,8 +1,9 @@
-//! Rows as bytes by hand, after the Avro specification's "Binary Encoding" and the Iceberg specification's "Manifest Lists".
+//! Rows of a manifest list.
 
-use super::*;
 use avro_datum::{Datum, decode};
 use avro_schema::{Schema, read_schema};
+use manifest_cells::FieldErr;
+use manifest_rows::{ManifestRow, row_fields, row_of, row_schema, row_slots, rows_are_read_back};
 use serde_json::Value;
 use std::alloc::Global;
 use std::process::Abort;
