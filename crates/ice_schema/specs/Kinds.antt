@@ -12,7 +12,7 @@ use Rattle.ice_schema.specs.declared.kinds.NullBranch.TheVariants as places
 -- Kinds, by the outermost layer.
 
 -- null, by its outermost layer
-abbrev is_null_layer : Schema-F Schema Field → Bool
+abbrev pub is_null_layer : Schema-F Schema Field → Bool
 is_null_layer Schema-F.Null = true
 is_null_layer _ = false
 
@@ -21,7 +21,7 @@ abbrev pub is_null : Schema → Bool
 is_null s = is_null_layer (out-Schema s)
 
 -- a boolean, by its outermost layer
-abbrev is_boolean_layer : Schema-F Schema Field → Bool
+abbrev pub is_boolean_layer : Schema-F Schema Field → Bool
 is_boolean_layer Schema-F.Bool = true
 is_boolean_layer _ = false
 
@@ -30,7 +30,7 @@ abbrev pub is_boolean : Schema → Bool
 is_boolean s = is_boolean_layer (out-Schema s)
 
 -- a float, by its outermost layer
-abbrev is_float_layer : Schema-F Schema Field → Bool
+abbrev pub is_float_layer : Schema-F Schema Field → Bool
 is_float_layer Schema-F.Float4 = true
 is_float_layer _ = false
 
@@ -39,7 +39,7 @@ abbrev pub is_float : Schema → Bool
 is_float s = is_float_layer (out-Schema s)
 
 -- a double, by its outermost layer
-abbrev is_double_layer : Schema-F Schema Field → Bool
+abbrev pub is_double_layer : Schema-F Schema Field → Bool
 is_double_layer Schema-F.Float8 = true
 is_double_layer _ = false
 
@@ -48,7 +48,7 @@ abbrev pub is_double : Schema → Bool
 is_double s = is_double_layer (out-Schema s)
 
 -- the logical type of an int, by its outermost layer
-abbrev int_of_layer : Schema-F Schema Field → Option Logical
+abbrev pub int_of_layer : Schema-F Schema Field → Option Logical
 int_of_layer (Schema-F.Int logical) = Some logical
 int_of_layer _ = None
 
@@ -57,7 +57,7 @@ abbrev pub int_of : Schema → Option Logical
 int_of s = int_of_layer (out-Schema s)
 
 -- the logical type of a long, by its outermost layer
-abbrev long_of_layer : Schema-F Schema Field → Option Logical
+abbrev pub long_of_layer : Schema-F Schema Field → Option Logical
 long_of_layer (Schema-F.Long logical) = Some logical
 long_of_layer _ = None
 
@@ -66,7 +66,7 @@ abbrev pub long_of : Schema → Option Logical
 long_of s = long_of_layer (out-Schema s)
 
 -- the logical type of bytes, by its outermost layer
-abbrev bytes_of_layer : Schema-F Schema Field → Option Logical
+abbrev pub bytes_of_layer : Schema-F Schema Field → Option Logical
 bytes_of_layer (Schema-F.Blob logical) = Some logical
 bytes_of_layer _ = None
 
@@ -75,7 +75,7 @@ abbrev pub bytes_of : Schema → Option Logical
 bytes_of s = bytes_of_layer (out-Schema s)
 
 -- the logical type of a string, by its outermost layer
-abbrev string_of_layer : Schema-F Schema Field → Option Logical
+abbrev pub string_of_layer : Schema-F Schema Field → Option Logical
 string_of_layer (Schema-F.Str logical) = Some logical
 string_of_layer _ = None
 
@@ -84,7 +84,7 @@ abbrev pub string_of : Schema → Option Logical
 string_of s = string_of_layer (out-Schema s)
 
 -- the logical type of a fixed, by its outermost layer
-abbrev fixed_of_layer : Schema-F Schema Field → Option Logical
+abbrev pub fixed_of_layer : Schema-F Schema Field → Option Logical
 fixed_of_layer (Schema-F.Fix name size logical) = Some logical
 fixed_of_layer _ = None
 
@@ -93,7 +93,7 @@ abbrev pub fixed_of : Schema → Option Logical
 fixed_of s = fixed_of_layer (out-Schema s)
 
 -- how many bytes a fixed has, and 0 of another, by its outermost layer
-abbrev size_of_layer : Schema-F Schema Field → ℕ
+abbrev pub size_of_layer : Schema-F Schema Field → ℕ
 size_of_layer (Schema-F.Fix name size logical) = size
 size_of_layer _ = 0
 
@@ -102,7 +102,7 @@ abbrev pub size_of : Schema → ℕ
 size_of s = size_of_layer (out-Schema s)
 
 -- the fields of a record, by its outermost layer
-abbrev fields_of_layer : Schema-F Schema Field → Option (List Field)
+abbrev pub fields_of_layer : Schema-F Schema Field → Option (List Field)
 fields_of_layer (Schema-F.Fields name fields) = Some fields
 fields_of_layer _ = None
 
@@ -111,7 +111,7 @@ abbrev pub fields_of : Schema → Option (List Field)
 fields_of s = fields_of_layer (out-Schema s)
 
 -- the items of an array that stands for no map, by its outermost layer
-abbrev item_of_layer : Schema-F Schema Field → Option Schema
+abbrev pub item_of_layer : Schema-F Schema Field → Option Schema
 item_of_layer (Schema-F.List item element_id is_map) = if is_map then None else Some item
 item_of_layer _ = None
 
@@ -120,7 +120,7 @@ abbrev pub item_of : Schema → Option Schema
 item_of s = item_of_layer (out-Schema s)
 
 -- the id of an array's items, by its outermost layer
-abbrev element_id_of_layer : Schema-F Schema Field → Option ℤ
+abbrev pub element_id_of_layer : Schema-F Schema Field → Option ℤ
 element_id_of_layer (Schema-F.List item element_id is_map) = element_id
 element_id_of_layer _ = None
 
@@ -129,7 +129,7 @@ abbrev pub element_id_of : Schema → Option ℤ
 element_id_of s = element_id_of_layer (out-Schema s)
 
 -- the fields of the records of a key and a value, of an array that stands for a map, by its outermost layer
-abbrev entries_of_layer : Schema-F Schema Field → Option (List Field)
+abbrev pub entries_of_layer : Schema-F Schema Field → Option (List Field)
 entries_of_layer (Schema-F.List item element_id is_map) = if is_map then fields_of item else None
 entries_of_layer _ = None
 
@@ -138,7 +138,7 @@ abbrev pub entries_of : Schema → Option (List Field)
 entries_of s = entries_of_layer (out-Schema s)
 
 -- the values of a map with string keys, by its outermost layer
-abbrev value_of_layer : Schema-F Schema Field → Option Schema
+abbrev pub value_of_layer : Schema-F Schema Field → Option Schema
 value_of_layer (Schema-F.Pairs value key_id value_id) = Some value
 value_of_layer _ = None
 
@@ -147,7 +147,7 @@ abbrev pub value_of : Schema → Option Schema
 value_of s = value_of_layer (out-Schema s)
 
 -- the id of such a map's keys, by its outermost layer
-abbrev key_id_of_layer : Schema-F Schema Field → Option ℤ
+abbrev pub key_id_of_layer : Schema-F Schema Field → Option ℤ
 key_id_of_layer (Schema-F.Pairs value key_id value_id) = key_id
 key_id_of_layer _ = None
 
@@ -156,7 +156,7 @@ abbrev pub key_id_of : Schema → Option ℤ
 key_id_of s = key_id_of_layer (out-Schema s)
 
 -- the id of its values, by its outermost layer
-abbrev value_id_of_layer : Schema-F Schema Field → Option ℤ
+abbrev pub value_id_of_layer : Schema-F Schema Field → Option ℤ
 value_id_of_layer (Schema-F.Pairs value key_id value_id) = value_id
 value_id_of_layer _ = None
 
@@ -214,7 +214,7 @@ beside_null whole (a ∷ (b ∷ [])) = if is_null a then b else (if is_null b th
 beside_null whole _ = whole
 
 -- whether and where a schema has null beside its type, by its outermost layer
-abbrev null_layer : Schema-F Schema Field → NullBranch
+abbrev pub null_layer : Schema-F Schema Field → NullBranch
 null_layer (Schema-F.Union branches) = null_in branches
 null_layer _ = places.Nowhere
 
@@ -223,7 +223,7 @@ abbrev pub null_branch : Schema → NullBranch
 null_branch s = null_layer (out-Schema s)
 
 -- the type, apart from null, by its outermost layer
-abbrev type_layer : Schema → Schema-F Schema Field → Schema
+abbrev pub type_layer : Schema → Schema-F Schema Field → Schema
 type_layer whole (Schema-F.Union branches) = beside_null whole branches
 type_layer whole _ = whole
 

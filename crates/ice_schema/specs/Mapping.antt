@@ -101,6 +101,10 @@ avro_type = fold-ColType (ℤ → Schema) Field type_step column_step
 abbrev pub avro_field : Column → Field
 avro_field = fold-Column (ℤ → Schema) Field type_step column_step
 
+-- the field of values of a type that may be null, under an id, and named as a column of this id and name is
+abbrev pub optional_field : ℤ → List ℕ → ColType → Field
+optional_field id name ty = field_of (field_name id name) id (optional false (avro_type ty id))
+
 -- the Avro schema of a table's rows: a record, named table, of the columns' fields in order
 abbrev pub rows_schema : Table → Schema
 rows_schema t = Fields (codes "table") (map avro_field t.columns)

@@ -14,9 +14,9 @@ mod sources;
 
 pub use fault::PartErr;
 pub use kinds::NullBranch;
-pub use mapping::to_avro;
+pub use mapping::{optional_field, to_avro};
 pub use partitions::partition_type;
-pub use projecting::projects;
+pub use projecting::{project_type, projects};
 pub use projection::{Nullness, Projection, Source, SourceList};
 pub use schema_trees::{JsonErr, read_schema, read_spec, schema_tree, spec_tree};
 pub use schema_types::{

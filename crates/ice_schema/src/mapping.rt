@@ -3,7 +3,7 @@ ghost use Rattle.std.specs.Prelude.{◌≡◌, map, Option, IfOk, codes, string_
 ghost use Rattle.avro_schema.specs.declared.schema.Logical.TheVariants.{TimestampMicros, Decimal};
 ghost use Rattle.avro_schema.specs.declared.schema.Schema.TheVariants.{Long, Fix, List as Array};
 ghost use Rattle.ice_schema.specs.Names.{fixed_name};
-ghost use Rattle.ice_schema.specs.Mapping.{decimal_size, optional, field_of, entries_of, map_of, avro_type, avro_field, rows_schema};
+ghost use Rattle.ice_schema.specs.Mapping.{decimal_size, optional, field_of, entries_of, map_of, avro_type, avro_field, optional_field, rows_schema};
 
 use crate::names::{entry_name, field_name, fixed_name, record_name};
 use crate::sizes::decimal_size;
@@ -19,6 +19,23 @@ pub fn to_avro(alloc: Global, schema: &schema_types::Schema) -> Result<Schema, A
     Ok(Schema::Fields {
         name: text(alloc, "table")?,
         fields: avro_fields(alloc, schema.columns.as_slice())?,
+    })
+}
+
+/// The field of values of this type that may be null, under an id, and named as a column of this id and name is.
+pub fn optional_field(
+    alloc: Global,
+    id: i32,
+    name: &Text,
+    ty: &ColType,
+) -> Result<Field, AllocError>
+    ensures { IfOk result (λ f. f ≡ optional_field id name.now ty.now) }
+{
+    let schema = avro_type(alloc, ty, id)?;
+    Ok(Field {
+        name: field_name(alloc, id, name)?,
+        schema: optional(alloc, false, schema)?,
+        field_id: Some(id),
     })
 }
 

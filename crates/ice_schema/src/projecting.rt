@@ -134,8 +134,10 @@ fn entries_of(
     array_of(alloc, Some(entry))
 }
 
+/// How a value of a file's type becomes one of a wanted type, apart from null: it stays, or an int becomes a long, and within
+/// records, arrays and maps the same holds of what has an id. None comes exactly where it doesn't.
 #[cycle(projecting)]
-fn project_type(
+pub fn project_type(
     alloc: Global,
     ty: &ColType,
     file: &Schema,

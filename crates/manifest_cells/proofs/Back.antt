@@ -70,7 +70,7 @@ pub maybe_list : {A : Type 0} (said : A → List (Option Datum)) (record_of : A 
 maybe_list said record_of places h o = in_places said record_of places h o ∙ ap (records_in places) (held_optional (array_of record_of) (λ xs. plain_array (map record_of xs)) o)
 
 -- where a written record of two fields has them
-pub both : List (Option ℕ)
+unfoldable pub both : List (Option ℕ)
 both = Some 0 ∷ Some 1 ∷ []
 
 -- A pair's record holds the pair.

@@ -60,6 +60,17 @@ pub fn optional_bool_of(found: Option<&Datum>) -> Option<Option<bool>>
     }
 }
 
+/// A long that may lack, if it is one.
+pub fn optional_long_of(found: Option<&Datum>) -> Option<Option<i64>>
+    ensures { Reads (option_map of_long) (option_copied found.entry) result }
+{
+    match found {
+        None => Some(None),
+        Some(Datum::Long(n)) => Some(Some(*n)),
+        _ => None,
+    }
+}
+
 /// Bytes that may lack, if these are some.
 pub fn optional_bytes_of(found: Option<&Datum>) -> Result<Option<Option<Bytes>>, AllocError>
     ensures { IfOk result (λ r. Reads (option_map of_blob) (option_copied found.entry) r) }

@@ -1,6 +1,7 @@
 //! Fields set from what a record holds. A field that doesn't fit is left, and `false` says so.
 
-ghost use Rattle.std.specs.Prelude.{◌≡◌, Some, pos, IfOk};
+ghost use Rattle.std.specs.Prelude.{◌≡◌, ◌<◌, ◌^◌, Some, pos, IfOk};
+ghost use Rattle.std.specs.Bool.{OnTrue};
 ghost use Rattle.std.specs.Option.{option_copied, option_map};
 ghost use Rattle.avro_datum.specs.declared.datum.Datum.TheVariants.{Int as of_int, Long as of_long, Blob as of_blob, Str as of_str};
 ghost use Rattle.manifest_cells.specs.Cells.{SetsValue, content_number};
@@ -24,7 +25,8 @@ pub fn set_text(found: Option<&Datum>, to: &mut Text) -> Result<bool, AllocError
 
 /// A long that isn't negative.
 pub fn set_count(found: Option<&Datum>, to: &mut u64) -> bool
-    ensures { SetsValue (λ x. Some (of_long (pos x))) (option_copied found.entry) result to.new }
+    ensures set { SetsValue (λ x. Some (of_long (pos x))) (option_copied found.entry) result to.new }
+    ensures below { OnTrue result (to.new < 2 ^ 63) }
 {
     match found {
         Some(Datum::Long(n)) => {
@@ -91,23 +93,6 @@ pub fn set_optional_int(found: Option<&Datum>, to: &mut Option<i32>) -> bool
             true
         }
         Some(Datum::Int(n)) => {
-            *to = Some(*n);
-            true
-        }
-        _ => false,
-    }
-}
-
-/// A long that may lack.
-pub fn set_optional_long(found: Option<&Datum>, to: &mut Option<i64>) -> bool
-    ensures { SetsValue (option_map of_long) (option_copied found.entry) result to.new }
-{
-    match found {
-        None => {
-            *to = None;
-            true
-        }
-        Some(Datum::Long(n)) => {
             *to = Some(*n);
             true
         }

@@ -54,7 +54,8 @@ fn own_fault(
     }
 }
 
-fn smaller(first: Option<i32>, second: Option<i32>) -> Option<i32>
+/// The smaller of two ids, where there are any.
+pub fn smaller(first: Option<i32>, second: Option<i32>) -> Option<i32>
     ensures { result ≡ smaller first second }
 {
     match (first, second) {

@@ -54,8 +54,8 @@ fn in_union(schema: &Schema) -> Option<&Schema>
     }
 }
 
-/// The type of a field's values that aren't null.
-pub(crate) fn type_of(may_lack: bool, schema: &Schema) -> Option<&Schema>
+/// The type of a field's values that aren't null: a field that may lack is a union with null, in either order.
+pub fn type_of(may_lack: bool, schema: &Schema) -> Option<&Schema>
     ensures { option_copied result ≡ type_of may_lack schema.now }
 {
     if may_lack {

@@ -26,22 +26,19 @@ pub struct Slot {
 /// Slots of the columns of a table, in its order.
 pub type SlotList = Items<Slot>;
 
+fn summary_ids() -> [i32; 4]
+    ensures { result ≡ map (λ c. c.id) summary_columns }
+{
+    let columns = summary_columns();
+    [columns[0].id, columns[1].id, columns[2].id, columns[3].id]
+}
+
 fn places_of(alloc: Global, ids: &[i32], fields: &[Field]) -> Result<PlaceList, AllocError>
     ensures { IfOk result (λ places. places ≡ places_of ids.now fields.now) }
 {
     let mut places = Items::new(alloc);
     for id in ids {
         places.push(place_of(fields, *id))?;
-    }
-    Ok(places)
-}
-
-fn summary_places(alloc: Global, fields: &[Field]) -> Result<PlaceList, AllocError>
-    ensures { IfOk result (λ places. places ≡ places_of (map (λ c. c.id) summary_columns) fields.now) }
-{
-    let mut places = Items::new(alloc);
-    for column in &summary_columns() {
-        places.push(place_of(fields, column.id))?;
     }
     Ok(places)
 }
@@ -64,7 +61,7 @@ fn places_within(alloc: Global, kind: Kind, fields: &[Field]) -> Result<PlaceLis
     match kind {
         Kind::IntLongs { key, value, .. } => places_of(alloc, &[key, value], fields),
         Kind::IntBytes { key, value, .. } => places_of(alloc, &[key, value], fields),
-        Kind::Summaries { .. } => summary_places(alloc, fields),
+        Kind::Summaries { .. } => places_of(alloc, &summary_ids(), fields),
         Kind::Bool
         | Kind::Int
         | Kind::Long

@@ -6,148 +6,100 @@ ghost use Rattle.manifest_columns.specs.Tables.{row_columns, summary_columns, en
 use crate::column::{Column, Kind};
 use crate::name::{Name, RecordName};
 
-const ROW_MANIFEST_PATH: Column = Column {
-    id: 500,
-    name: Name::ManifestPath,
-    kind: Kind::Text,
-    may_lack: false,
-};
-
-const ROW_MANIFEST_LENGTH: Column = Column {
-    id: 501,
-    name: Name::ManifestLength,
-    kind: Kind::Long,
-    may_lack: false,
-};
-
-const ROW_PARTITION_SPEC_ID: Column = Column {
-    id: 502,
-    name: Name::PartitionSpecId,
-    kind: Kind::Int,
-    may_lack: false,
-};
-
-const ROW_ADDED_SNAPSHOT_ID: Column = Column {
-    id: 503,
-    name: Name::AddedSnapshotId,
-    kind: Kind::Long,
-    may_lack: false,
-};
-
-const ROW_ADDED_FILES_COUNT: Column = Column {
-    id: 504,
-    name: Name::AddedFilesCount,
-    kind: Kind::Int,
-    may_lack: false,
-};
-
-const ROW_EXISTING_FILES_COUNT: Column = Column {
-    id: 505,
-    name: Name::ExistingFilesCount,
-    kind: Kind::Int,
-    may_lack: false,
-};
-
-const ROW_DELETED_FILES_COUNT: Column = Column {
-    id: 506,
-    name: Name::DeletedFilesCount,
-    kind: Kind::Int,
-    may_lack: false,
-};
-
-const ROW_PARTITIONS: Column = Column {
-    id: 507,
-    name: Name::Partitions,
-    kind: Kind::Summaries {
-        element: 508,
-        record: RecordName::FieldSummary,
-    },
-    may_lack: true,
-};
-
-const ROW_ADDED_ROWS_COUNT: Column = Column {
-    id: 512,
-    name: Name::AddedRowsCount,
-    kind: Kind::Long,
-    may_lack: false,
-};
-
-const ROW_EXISTING_ROWS_COUNT: Column = Column {
-    id: 513,
-    name: Name::ExistingRowsCount,
-    kind: Kind::Long,
-    may_lack: false,
-};
-
-const ROW_DELETED_ROWS_COUNT: Column = Column {
-    id: 514,
-    name: Name::DeletedRowsCount,
-    kind: Kind::Long,
-    may_lack: false,
-};
-
-const ROW_SEQUENCE_NUMBER: Column = Column {
-    id: 515,
-    name: Name::SequenceNumber,
-    kind: Kind::Long,
-    may_lack: false,
-};
-
-const ROW_MIN_SEQUENCE_NUMBER: Column = Column {
-    id: 516,
-    name: Name::MinSequenceNumber,
-    kind: Kind::Long,
-    may_lack: false,
-};
-
-const ROW_CONTENT: Column = Column {
-    id: 517,
-    name: Name::Content,
-    kind: Kind::Int,
-    may_lack: false,
-};
-
-const ROW_KEY_METADATA: Column = Column {
-    id: 519,
-    name: Name::KeyMetadata,
-    kind: Kind::Bytes,
-    may_lack: true,
-};
-
 const ROW_COLUMNS: [Column; 15] = [
-    ROW_MANIFEST_PATH,
-    ROW_MANIFEST_LENGTH,
-    ROW_PARTITION_SPEC_ID,
-    ROW_ADDED_SNAPSHOT_ID,
-    ROW_ADDED_FILES_COUNT,
-    ROW_EXISTING_FILES_COUNT,
-    ROW_DELETED_FILES_COUNT,
-    ROW_PARTITIONS,
-    ROW_ADDED_ROWS_COUNT,
-    ROW_EXISTING_ROWS_COUNT,
-    ROW_DELETED_ROWS_COUNT,
-    ROW_SEQUENCE_NUMBER,
-    ROW_MIN_SEQUENCE_NUMBER,
-    ROW_CONTENT,
-    ROW_KEY_METADATA,
-];
-
-const WRITTEN_ROW_COLUMNS: [Column; 15] = [
-    ROW_MANIFEST_PATH,
-    ROW_MANIFEST_LENGTH,
-    ROW_PARTITION_SPEC_ID,
-    ROW_CONTENT,
-    ROW_SEQUENCE_NUMBER,
-    ROW_MIN_SEQUENCE_NUMBER,
-    ROW_ADDED_SNAPSHOT_ID,
-    ROW_ADDED_FILES_COUNT,
-    ROW_EXISTING_FILES_COUNT,
-    ROW_DELETED_FILES_COUNT,
-    ROW_ADDED_ROWS_COUNT,
-    ROW_EXISTING_ROWS_COUNT,
-    ROW_DELETED_ROWS_COUNT,
-    ROW_PARTITIONS,
-    ROW_KEY_METADATA,
+    Column {
+        id: 500,
+        name: Name::ManifestPath,
+        kind: Kind::Text,
+        may_lack: false,
+    },
+    Column {
+        id: 501,
+        name: Name::ManifestLength,
+        kind: Kind::Long,
+        may_lack: false,
+    },
+    Column {
+        id: 502,
+        name: Name::PartitionSpecId,
+        kind: Kind::Int,
+        may_lack: false,
+    },
+    Column {
+        id: 503,
+        name: Name::AddedSnapshotId,
+        kind: Kind::Long,
+        may_lack: false,
+    },
+    Column {
+        id: 504,
+        name: Name::AddedFilesCount,
+        kind: Kind::Int,
+        may_lack: false,
+    },
+    Column {
+        id: 505,
+        name: Name::ExistingFilesCount,
+        kind: Kind::Int,
+        may_lack: false,
+    },
+    Column {
+        id: 506,
+        name: Name::DeletedFilesCount,
+        kind: Kind::Int,
+        may_lack: false,
+    },
+    Column {
+        id: 507,
+        name: Name::Partitions,
+        kind: Kind::Summaries {
+            element: 508,
+            record: RecordName::FieldSummary,
+        },
+        may_lack: true,
+    },
+    Column {
+        id: 512,
+        name: Name::AddedRowsCount,
+        kind: Kind::Long,
+        may_lack: false,
+    },
+    Column {
+        id: 513,
+        name: Name::ExistingRowsCount,
+        kind: Kind::Long,
+        may_lack: false,
+    },
+    Column {
+        id: 514,
+        name: Name::DeletedRowsCount,
+        kind: Kind::Long,
+        may_lack: false,
+    },
+    Column {
+        id: 515,
+        name: Name::SequenceNumber,
+        kind: Kind::Long,
+        may_lack: false,
+    },
+    Column {
+        id: 516,
+        name: Name::MinSequenceNumber,
+        kind: Kind::Long,
+        may_lack: false,
+    },
+    Column {
+        id: 517,
+        name: Name::Content,
+        kind: Kind::Int,
+        may_lack: false,
+    },
+    Column {
+        id: 519,
+        name: Name::KeyMetadata,
+        kind: Kind::Bytes,
+        may_lack: true,
+    },
 ];
 
 /// The columns of a row of a manifest list (Apache Iceberg specification, "Manifest Lists"), in the order of their ids.
@@ -161,49 +113,51 @@ pub fn row_columns() -> [Column; 15]
 pub fn written_row_columns() -> [Column; 15]
     ensures { result ≡ written_row_columns }
 {
-    WRITTEN_ROW_COLUMNS
+    let columns = ROW_COLUMNS;
+    [
+        columns[0],
+        columns[1],
+        columns[2],
+        columns[13],
+        columns[11],
+        columns[12],
+        columns[3],
+        columns[4],
+        columns[5],
+        columns[6],
+        columns[8],
+        columns[9],
+        columns[10],
+        columns[7],
+        columns[14],
+    ]
 }
 
-const SUMMARY_CONTAINS_NULL: Column = Column {
-    id: 509,
-    name: Name::ContainsNull,
-    kind: Kind::Bool,
-    may_lack: false,
-};
-
-const SUMMARY_LOWER_BOUND: Column = Column {
-    id: 510,
-    name: Name::LowerBound,
-    kind: Kind::Bytes,
-    may_lack: true,
-};
-
-const SUMMARY_UPPER_BOUND: Column = Column {
-    id: 511,
-    name: Name::UpperBound,
-    kind: Kind::Bytes,
-    may_lack: true,
-};
-
-const SUMMARY_CONTAINS_NAN: Column = Column {
-    id: 518,
-    name: Name::ContainsNan,
-    kind: Kind::Bool,
-    may_lack: true,
-};
-
 const SUMMARY_COLUMNS: [Column; 4] = [
-    SUMMARY_CONTAINS_NULL,
-    SUMMARY_LOWER_BOUND,
-    SUMMARY_UPPER_BOUND,
-    SUMMARY_CONTAINS_NAN,
-];
-
-const WRITTEN_SUMMARY_COLUMNS: [Column; 4] = [
-    SUMMARY_CONTAINS_NULL,
-    SUMMARY_CONTAINS_NAN,
-    SUMMARY_LOWER_BOUND,
-    SUMMARY_UPPER_BOUND,
+    Column {
+        id: 509,
+        name: Name::ContainsNull,
+        kind: Kind::Bool,
+        may_lack: false,
+    },
+    Column {
+        id: 510,
+        name: Name::LowerBound,
+        kind: Kind::Bytes,
+        may_lack: true,
+    },
+    Column {
+        id: 511,
+        name: Name::UpperBound,
+        kind: Kind::Bytes,
+        may_lack: true,
+    },
+    Column {
+        id: 518,
+        name: Name::ContainsNan,
+        kind: Kind::Bool,
+        may_lack: true,
+    },
 ];
 
 /// The columns of the summary of a partition field in such a row (Apache Iceberg specification, "Manifest Lists"), in the order of their ids.
@@ -217,60 +171,43 @@ pub fn summary_columns() -> [Column; 4]
 pub fn written_summary_columns() -> [Column; 4]
     ensures { result ≡ written_summary_columns }
 {
-    WRITTEN_SUMMARY_COLUMNS
+    let columns = SUMMARY_COLUMNS;
+    [columns[0], columns[3], columns[1], columns[2]]
 }
 
-const ENTRY_STATUS: Column = Column {
-    id: 0,
-    name: Name::Status,
-    kind: Kind::Int,
-    may_lack: false,
-};
-
-const ENTRY_SNAPSHOT_ID: Column = Column {
-    id: 1,
-    name: Name::SnapshotId,
-    kind: Kind::Long,
-    may_lack: true,
-};
-
-const ENTRY_DATA_FILE: Column = Column {
-    id: 2,
-    name: Name::DataFile,
-    kind: Kind::Record {
-        record: RecordName::DataFile,
-    },
-    may_lack: false,
-};
-
-const ENTRY_SEQUENCE_NUMBER: Column = Column {
-    id: 3,
-    name: Name::SequenceNumber,
-    kind: Kind::Long,
-    may_lack: true,
-};
-
-const ENTRY_FILE_SEQUENCE_NUMBER: Column = Column {
-    id: 4,
-    name: Name::FileSequenceNumber,
-    kind: Kind::Long,
-    may_lack: true,
-};
-
 const ENTRY_COLUMNS: [Column; 5] = [
-    ENTRY_STATUS,
-    ENTRY_SNAPSHOT_ID,
-    ENTRY_DATA_FILE,
-    ENTRY_SEQUENCE_NUMBER,
-    ENTRY_FILE_SEQUENCE_NUMBER,
-];
-
-const WRITTEN_ENTRY_COLUMNS: [Column; 5] = [
-    ENTRY_STATUS,
-    ENTRY_SNAPSHOT_ID,
-    ENTRY_SEQUENCE_NUMBER,
-    ENTRY_FILE_SEQUENCE_NUMBER,
-    ENTRY_DATA_FILE,
+    Column {
+        id: 0,
+        name: Name::Status,
+        kind: Kind::Int,
+        may_lack: false,
+    },
+    Column {
+        id: 1,
+        name: Name::SnapshotId,
+        kind: Kind::Long,
+        may_lack: true,
+    },
+    Column {
+        id: 2,
+        name: Name::DataFile,
+        kind: Kind::Record {
+            record: RecordName::DataFile,
+        },
+        may_lack: false,
+    },
+    Column {
+        id: 3,
+        name: Name::SequenceNumber,
+        kind: Kind::Long,
+        may_lack: true,
+    },
+    Column {
+        id: 4,
+        name: Name::FileSequenceNumber,
+        kind: Kind::Long,
+        may_lack: true,
+    },
 ];
 
 /// The columns of an entry of a manifest (Apache Iceberg specification, "Manifests"), in the order of their ids.
@@ -284,192 +221,139 @@ pub fn entry_columns() -> [Column; 5]
 pub fn written_entry_columns() -> [Column; 5]
     ensures { result ≡ written_entry_columns }
 {
-    WRITTEN_ENTRY_COLUMNS
+    let columns = ENTRY_COLUMNS;
+    [columns[0], columns[1], columns[3], columns[4], columns[2]]
 }
 
-const DATA_FILE_FILE_PATH: Column = Column {
-    id: 100,
-    name: Name::FilePath,
-    kind: Kind::Text,
-    may_lack: false,
-};
-
-const DATA_FILE_FILE_FORMAT: Column = Column {
-    id: 101,
-    name: Name::FileFormat,
-    kind: Kind::Text,
-    may_lack: false,
-};
-
-const DATA_FILE_PARTITION: Column = Column {
-    id: 102,
-    name: Name::Partition,
-    kind: Kind::Record {
-        record: RecordName::Partition,
-    },
-    may_lack: false,
-};
-
-const DATA_FILE_RECORD_COUNT: Column = Column {
-    id: 103,
-    name: Name::RecordCount,
-    kind: Kind::Long,
-    may_lack: false,
-};
-
-const DATA_FILE_FILE_SIZE_IN_BYTES: Column = Column {
-    id: 104,
-    name: Name::FileSizeInBytes,
-    kind: Kind::Long,
-    may_lack: false,
-};
-
-const DATA_FILE_COLUMN_SIZES: Column = Column {
-    id: 108,
-    name: Name::ColumnSizes,
-    kind: Kind::IntLongs {
-        key: 117,
-        value: 118,
-        record: RecordName::ColumnSizes,
-    },
-    may_lack: true,
-};
-
-const DATA_FILE_VALUE_COUNTS: Column = Column {
-    id: 109,
-    name: Name::ValueCounts,
-    kind: Kind::IntLongs {
-        key: 119,
-        value: 120,
-        record: RecordName::ValueCounts,
-    },
-    may_lack: true,
-};
-
-const DATA_FILE_NULL_VALUE_COUNTS: Column = Column {
-    id: 110,
-    name: Name::NullValueCounts,
-    kind: Kind::IntLongs {
-        key: 121,
-        value: 122,
-        record: RecordName::NullValueCounts,
-    },
-    may_lack: true,
-};
-
-const DATA_FILE_LOWER_BOUNDS: Column = Column {
-    id: 125,
-    name: Name::LowerBounds,
-    kind: Kind::IntBytes {
-        key: 126,
-        value: 127,
-        record: RecordName::LowerBounds,
-    },
-    may_lack: true,
-};
-
-const DATA_FILE_UPPER_BOUNDS: Column = Column {
-    id: 128,
-    name: Name::UpperBounds,
-    kind: Kind::IntBytes {
-        key: 129,
-        value: 130,
-        record: RecordName::UpperBounds,
-    },
-    may_lack: true,
-};
-
-const DATA_FILE_KEY_METADATA: Column = Column {
-    id: 131,
-    name: Name::KeyMetadata,
-    kind: Kind::Bytes,
-    may_lack: true,
-};
-
-const DATA_FILE_SPLIT_OFFSETS: Column = Column {
-    id: 132,
-    name: Name::SplitOffsets,
-    kind: Kind::Longs { element: 133 },
-    may_lack: true,
-};
-
-const DATA_FILE_CONTENT: Column = Column {
-    id: 134,
-    name: Name::Content,
-    kind: Kind::Int,
-    may_lack: false,
-};
-
-const DATA_FILE_EQUALITY_IDS: Column = Column {
-    id: 135,
-    name: Name::EqualityIds,
-    kind: Kind::Ints { element: 136 },
-    may_lack: true,
-};
-
-const DATA_FILE_NAN_VALUE_COUNTS: Column = Column {
-    id: 137,
-    name: Name::NanValueCounts,
-    kind: Kind::IntLongs {
-        key: 138,
-        value: 139,
-        record: RecordName::NanValueCounts,
-    },
-    may_lack: true,
-};
-
-const DATA_FILE_SORT_ORDER_ID: Column = Column {
-    id: 140,
-    name: Name::SortOrderId,
-    kind: Kind::Int,
-    may_lack: true,
-};
-
-const DATA_FILE_REFERENCED_DATA_FILE: Column = Column {
-    id: 143,
-    name: Name::ReferencedDataFile,
-    kind: Kind::Text,
-    may_lack: true,
-};
-
 const DATA_FILE_COLUMNS: [Column; 17] = [
-    DATA_FILE_FILE_PATH,
-    DATA_FILE_FILE_FORMAT,
-    DATA_FILE_PARTITION,
-    DATA_FILE_RECORD_COUNT,
-    DATA_FILE_FILE_SIZE_IN_BYTES,
-    DATA_FILE_COLUMN_SIZES,
-    DATA_FILE_VALUE_COUNTS,
-    DATA_FILE_NULL_VALUE_COUNTS,
-    DATA_FILE_LOWER_BOUNDS,
-    DATA_FILE_UPPER_BOUNDS,
-    DATA_FILE_KEY_METADATA,
-    DATA_FILE_SPLIT_OFFSETS,
-    DATA_FILE_CONTENT,
-    DATA_FILE_EQUALITY_IDS,
-    DATA_FILE_NAN_VALUE_COUNTS,
-    DATA_FILE_SORT_ORDER_ID,
-    DATA_FILE_REFERENCED_DATA_FILE,
-];
-
-const WRITTEN_DATA_FILE_COLUMNS: [Column; 17] = [
-    DATA_FILE_CONTENT,
-    DATA_FILE_FILE_PATH,
-    DATA_FILE_FILE_FORMAT,
-    DATA_FILE_PARTITION,
-    DATA_FILE_RECORD_COUNT,
-    DATA_FILE_FILE_SIZE_IN_BYTES,
-    DATA_FILE_COLUMN_SIZES,
-    DATA_FILE_VALUE_COUNTS,
-    DATA_FILE_NULL_VALUE_COUNTS,
-    DATA_FILE_NAN_VALUE_COUNTS,
-    DATA_FILE_LOWER_BOUNDS,
-    DATA_FILE_UPPER_BOUNDS,
-    DATA_FILE_KEY_METADATA,
-    DATA_FILE_SPLIT_OFFSETS,
-    DATA_FILE_EQUALITY_IDS,
-    DATA_FILE_SORT_ORDER_ID,
-    DATA_FILE_REFERENCED_DATA_FILE,
+    Column {
+        id: 100,
+        name: Name::FilePath,
+        kind: Kind::Text,
+        may_lack: false,
+    },
+    Column {
+        id: 101,
+        name: Name::FileFormat,
+        kind: Kind::Text,
+        may_lack: false,
+    },
+    Column {
+        id: 102,
+        name: Name::Partition,
+        kind: Kind::Record {
+            record: RecordName::Partition,
+        },
+        may_lack: false,
+    },
+    Column {
+        id: 103,
+        name: Name::RecordCount,
+        kind: Kind::Long,
+        may_lack: false,
+    },
+    Column {
+        id: 104,
+        name: Name::FileSizeInBytes,
+        kind: Kind::Long,
+        may_lack: false,
+    },
+    Column {
+        id: 108,
+        name: Name::ColumnSizes,
+        kind: Kind::IntLongs {
+            key: 117,
+            value: 118,
+            record: RecordName::ColumnSizes,
+        },
+        may_lack: true,
+    },
+    Column {
+        id: 109,
+        name: Name::ValueCounts,
+        kind: Kind::IntLongs {
+            key: 119,
+            value: 120,
+            record: RecordName::ValueCounts,
+        },
+        may_lack: true,
+    },
+    Column {
+        id: 110,
+        name: Name::NullValueCounts,
+        kind: Kind::IntLongs {
+            key: 121,
+            value: 122,
+            record: RecordName::NullValueCounts,
+        },
+        may_lack: true,
+    },
+    Column {
+        id: 125,
+        name: Name::LowerBounds,
+        kind: Kind::IntBytes {
+            key: 126,
+            value: 127,
+            record: RecordName::LowerBounds,
+        },
+        may_lack: true,
+    },
+    Column {
+        id: 128,
+        name: Name::UpperBounds,
+        kind: Kind::IntBytes {
+            key: 129,
+            value: 130,
+            record: RecordName::UpperBounds,
+        },
+        may_lack: true,
+    },
+    Column {
+        id: 131,
+        name: Name::KeyMetadata,
+        kind: Kind::Bytes,
+        may_lack: true,
+    },
+    Column {
+        id: 132,
+        name: Name::SplitOffsets,
+        kind: Kind::Longs { element: 133 },
+        may_lack: true,
+    },
+    Column {
+        id: 134,
+        name: Name::Content,
+        kind: Kind::Int,
+        may_lack: false,
+    },
+    Column {
+        id: 135,
+        name: Name::EqualityIds,
+        kind: Kind::Ints { element: 136 },
+        may_lack: true,
+    },
+    Column {
+        id: 137,
+        name: Name::NanValueCounts,
+        kind: Kind::IntLongs {
+            key: 138,
+            value: 139,
+            record: RecordName::NanValueCounts,
+        },
+        may_lack: true,
+    },
+    Column {
+        id: 140,
+        name: Name::SortOrderId,
+        kind: Kind::Int,
+        may_lack: true,
+    },
+    Column {
+        id: 143,
+        name: Name::ReferencedDataFile,
+        kind: Kind::Text,
+        may_lack: true,
+    },
 ];
 
 /// The columns of a data file in an entry (Apache Iceberg specification, "Manifests"), in the order of their ids.
@@ -483,5 +367,24 @@ pub fn data_file_columns() -> [Column; 17]
 pub fn written_data_file_columns() -> [Column; 17]
     ensures { result ≡ written_data_file_columns }
 {
-    WRITTEN_DATA_FILE_COLUMNS
+    let columns = DATA_FILE_COLUMNS;
+    [
+        columns[12],
+        columns[0],
+        columns[1],
+        columns[2],
+        columns[3],
+        columns[4],
+        columns[5],
+        columns[6],
+        columns[7],
+        columns[14],
+        columns[8],
+        columns[9],
+        columns[10],
+        columns[11],
+        columns[13],
+        columns[15],
+        columns[16],
+    ]
 }

@@ -8,16 +8,17 @@ use Rattle.manifest_cells.specs.Cells.{Cell, single, held}
 use Rattle.manifest_cells.proofs.Back.{conses}
 use Rattle.manifest_files.specs.declared.file.Content.TheVariants.{Rows}
 use Rattle.manifest_files.specs.declared.file.DataFile.{DataFile}
-use Rattle.manifest_files.specs.declared.file.FieldErr.{FieldErr}
-use Rattle.manifest_files.specs.declared.file.FieldErr.TheVariants as errors
-use Rattle.manifest_files.specs.Files.{IsFile, IsBadFileAt, ReadsFile, OnBad}
+use Rattle.manifest_cells.specs.declared.field_err.FieldErr.{FieldErr}
+use Rattle.manifest_cells.specs.declared.field_err.FieldErr.TheVariants as errors
+use Rattle.manifest_files.specs.Files.{IsFile, IsBadFileAt, ReadsFile}
+use Rattle.manifest_cells.specs.FieldErrors.{OnBadField}
 use Rattle.manifest_entries.specs.declared.entry.Entry.{Entry}
 use Rattle.manifest_entries.specs.declared.entry.EntrySlots.{EntrySlots}
 use Rattle.manifest_entries.specs.declared.entry.EntryStatus.{EntryStatus}
 use Rattle.manifest_entries.specs.declared.entry.EntryStatus.TheVariants.{Added}
 use Rattle.manifest_entries.specs.Entries.{NoEntry, ReadsEntry, IsBadEntryAt, entry_cells, found_fields, held_entry_cells, status_number}
 
-pub no_entry : (slots : EntrySlots) (ds : List Datum) (r : Result Entry FieldErr) → ReadsEntry slots ds r → OnBad r (NoEntry slots ds)
+pub no_entry : (slots : EntrySlots) (ds : List Datum) (r : Result Entry FieldErr) → ReadsEntry slots ds r → OnBadField r (NoEntry slots ds)
 no_entry slots ds (Ok entry) h = tt
 no_entry slots ds (Err errors.Memory) h = tt
 no_entry slots ds (Err (errors.BadField id)) h = λ entry e. h.fits_not entry (ap (λ (cs : List Cell). slice_get cs h.place) e)

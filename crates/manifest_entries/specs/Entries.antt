@@ -9,8 +9,8 @@ use Rattle.manifest_columns.specs.Places.{place_of}
 use Rattle.manifest_columns.specs.Slots.{slot_of}
 use Rattle.manifest_columns.specs.Tables.{data_file_columns}
 use Rattle.manifest_cells.specs.Cells.{Cell, single, held, fields_in}
-use Rattle.manifest_files.specs.declared.file.FieldErr.{FieldErr}
-use Rattle.manifest_files.specs.declared.file.FieldErr.TheVariants as errors
+use Rattle.manifest_cells.specs.declared.field_err.FieldErr.{FieldErr}
+use Rattle.manifest_cells.specs.declared.field_err.FieldErr.TheVariants as errors
 use Rattle.manifest_files.specs.declared.partition.PartSlot.{PartSlot}
 use Rattle.manifest_files.specs.Files.{file_cells, file_ids, held_file_cells}
 use Rattle.manifest_entries.specs.declared.entry.Entry.{Entry}

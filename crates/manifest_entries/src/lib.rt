@@ -5,8 +5,6 @@
 mod entry;
 mod reading;
 mod slots;
-#[cfg(test)]
-mod tests;
 mod writing;
 
 pub use entry::{Entry, EntrySlots, EntryStatus};

@@ -4,13 +4,14 @@ ghost use Rattle.std.specs.Prelude.{◌≡◌, Some, IfOk, length};
 ghost use Rattle.std.specs.Option.{option_copied, option_map};
 ghost use Rattle.avro_datum.specs.declared.datum.Datum.TheVariants.{Int as of_int, Long as of_long};
 ghost use Rattle.manifest_cells.specs.Cells.{Reads, held};
-ghost use Rattle.manifest_files.specs.Files.{OnBad, ReadsFile};
+ghost use Rattle.manifest_cells.specs.FieldErrors.{OnBadField};
+ghost use Rattle.manifest_files.specs.Files.{CountsFit, ReadsFile};
 ghost use Rattle.manifest_entries.specs.Entries.{NoEntry, ReadsEntry, found_fields, status_number};
 
 use crate::entry::{Entry, EntrySlots, EntryStatus};
 use avro_datum::Datum;
-use manifest_cells::{fields_in, held};
-use manifest_files::{DataFile, FieldErr, file_of};
+use manifest_cells::{FieldErr, fields_in, held, optional_long_of};
+use manifest_files::{DataFile, file_of};
 use std::alloc::Global;
 
 fn status_of(found: Option<&Datum>) -> Option<EntryStatus>
@@ -31,21 +32,11 @@ fn status_at(items: &[Datum], place: Option<usize>) -> Option<EntryStatus>
     status_of(found)
 }
 
-fn number_of(found: Option<&Datum>) -> Option<Option<i64>>
-    ensures { Reads (option_map of_long) (option_copied found.entry) result }
-{
-    match found {
-        None => Some(None),
-        Some(Datum::Long(n)) => Some(Some(*n)),
-        _ => None,
-    }
-}
-
 fn number_at(items: &[Datum], place: Option<usize>) -> Option<Option<i64>>
     ensures { Reads (option_map of_long) (held items.now place) result }
 {
     let found = held(items, place);
-    number_of(found)
+    optional_long_of(found)
 }
 
 fn found_fields(found: Option<&Datum>) -> &[Datum]
@@ -59,7 +50,8 @@ fn found_fields(found: Option<&Datum>) -> &[Datum]
 
 fn file_at(alloc: Global, slots: &EntrySlots, items: &[Datum]) -> Result<DataFile, FieldErr>
     requires { length slots.now.file ≡ 17 }
-    ensures { ReadsFile slots.now.file slots.now.parts (found_fields (held items.now slots.now.data_file)) result }
+    ensures exact { ReadsFile slots.now.file slots.now.parts (found_fields (held items.now slots.now.data_file)) result }
+    ensures counts { IfOk result CountsFit }
 {
     let found = held(items, slots.data_file);
     let fields = found_fields(found);
@@ -71,7 +63,8 @@ fn file_at(alloc: Global, slots: &EntrySlots, items: &[Datum]) -> Result<DataFil
 #[tactic(auto, using(crate::proofs::Order::no_status, crate::proofs::Order::no_snapshot, crate::proofs::Order::no_number, crate::proofs::Order::no_file_number, crate::proofs::Order::all_fit))]
 fn entry_in(alloc: Global, slots: &EntrySlots, items: &[Datum]) -> Result<Entry, FieldErr>
     requires { length slots.now.file ≡ 17 }
-    ensures { ReadsEntry slots.now items.now result }
+    ensures exact { ReadsEntry slots.now items.now result }
+    ensures counts { IfOk result (λ entry. CountsFit entry.data_file) }
 {
     let Some(status) = status_at(items, slots.status) else {
         return Err(FieldErr::BadField(0));
@@ -109,8 +102,10 @@ pub fn entry_of(
     // Exactly the entry whose fields the record holds, or the first one that holds none.
     ensures exact { ReadsEntry slots.now items.now result }
     ensures at { IfOk result (λ entry. entry.at ≡ at) }
+    // So the entry may be written.
+    ensures counts { IfOk result (λ entry. CountsFit entry.data_file) }
     // A field is refused only where the record stands for no entry.
-    ensures none { OnBad result (NoEntry slots.now items.now) }
+    ensures none { OnBadField result (NoEntry slots.now items.now) }
 {
     let mut entry = entry_in(alloc, slots, items)?;
     entry.at = at;

@@ -1,7 +1,8 @@
 //! The record of an entry.
 
-ghost use Rattle.std.specs.Prelude.{◌≡◌, ◌<◌, ◌^◌, IfOk};
+ghost use Rattle.std.specs.Prelude.{◌≡◌, IfOk};
 ghost use Rattle.avro_datum.specs.declared.datum.Datum.TheVariants.{Int as of_int};
+ghost use Rattle.manifest_files.specs.Files.{CountsFit};
 ghost use Rattle.manifest_entries.specs.Entries.{status_number};
 ghost use Rattle.manifest_entries.specs.Written.{entry_fields, EntriesAreReadBack};
 
@@ -24,8 +25,7 @@ fn status(status: EntryStatus) -> Datum
 
 /// The fields of an entry's record, in the order in which they are written. A number that lacks is written as null.
 pub fn entry_fields(alloc: Global, entry: &Entry) -> Result<DatumList, AllocError>
-    requires records { entry.now.data_file.record_count < 2 ^ 63 }
-    requires size { entry.now.data_file.file_size_in_bytes < 2 ^ 63 }
+    requires { CountsFit entry.now.data_file }
     ensures { IfOk result (λ ds. ds ≡ entry_fields entry.now) }
 {
     let mut items = Items::new(alloc);

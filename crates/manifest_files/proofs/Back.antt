@@ -21,7 +21,7 @@ use Rattle.manifest_columns.specs.Written.{field, nullable, pair_type, plain_typ
 use Rattle.manifest_columns.proofs.Lists.{fields_in_list}
 use Rattle.manifest_cells.specs.Cells.{Cell, single, records as listed, fields_in, held, record_cells, int_long_cells, int_bytes_cells, long_array, int_array}
 use Rattle.manifest_cells.specs.Written.{int_long_record, int_bytes_record}
-use Rattle.manifest_cells.proofs.Back.{IsPlain, plain_int, plain_long, plain_blob, plain_text, plain_array, held_needed, needed, maybe, maybe_list, conses}
+use Rattle.manifest_cells.proofs.Back.{IsPlain, plain_int, plain_long, plain_blob, plain_text, plain_array, held_needed, needed, maybe, maybe_list, conses, both, int_long_back, int_bytes_back}
 use Rattle.manifest_files.specs.declared.file.DataFile.{DataFile}
 use Rattle.manifest_files.specs.declared.partition.PartSlot.{PartSlot}
 use Rattle.manifest_files.specs.Files.{file_cells, file_kinds, file_cells_of, IsFile}
@@ -71,22 +71,6 @@ slots_are =
     (conses (slot_is 9 (pos 138) (pos 139) kinds.Long records.NanValueCounts)
     (conses refl (conses refl refl))))))))))))))))
 
--- where a written pair has its key and value
-pair_places : List (Option ℕ)
-pair_places = Some 0 ∷ Some 1 ∷ []
-
-int_longs : (p : ℤ × ℤ) → int_long_cells p ≡ record_cells pair_places (int_long_record p)
-unfolding pair_places
-int_longs p =
-    conses (held_needed (Int p.0) (plain_int p.0)) (conses (held_needed (Long p.1) (plain_long p.1)) refl)
-    ∙ sym (ap (λ (t : Datum-F Datum). map (held (fields_in t)) pair_places) (outs-Fields (Int p.0 ∷ Long p.1 ∷ [])))
-
-int_bytes : (p : ℤ × List ℕ) → int_bytes_cells p ≡ record_cells pair_places (int_bytes_record p)
-unfolding pair_places
-int_bytes p =
-    conses (held_needed (Int p.0) (plain_int p.0)) (conses (held_needed (Blob p.1) (plain_blob p.1)) refl)
-    ∙ sym (ap (λ (t : Datum-F Datum). map (held (fields_in t)) pair_places) (outs-Fields (Int p.0 ∷ Blob p.1 ∷ [])))
-
 plain_longs : (ns : List ℤ) → IsPlain (long_array ns)
 plain_longs ns = plain_array (map Long ns)
 
@@ -107,23 +91,23 @@ partition_read (a ∷ b ∷ []) parts ds file h = let p : Some file.partition �
 partition_read (a ∷ b ∷ c ∷ ss) parts ds file h = (held ds c.place, ap (λ cs. value_in (slice_get cs 2)) h)
 
 back_at : (parts : List PartSlot) (file : DataFile) (o : Option Datum) → Some file.partition ≡ partition_in parts o → file_cells file ≡ file_cells_of (written_parts 0 parts) (file_fields file) file_kinds slots
-unfolding file_cells file_fields slots slot_at pairs_at pair_fields pair_places
+unfolding file_cells file_fields slots slot_at pairs_at pair_fields both
 back_at parts file o was =
     conses (needed (Str file.path) (plain_text file.path))
     (conses (needed (Str file.format) (plain_text file.format))
     (conses (ap single (partition_back parts file.partition o was))
     (conses (needed (Long (pos file.record_count)) (plain_long (pos file.record_count)))
     (conses (needed (Long (pos file.file_size_in_bytes)) (plain_long (pos file.file_size_in_bytes)))
-    (conses (maybe_list int_long_cells int_long_record pair_places int_longs file.column_sizes)
-    (conses (maybe_list int_long_cells int_long_record pair_places int_longs file.value_counts)
-    (conses (maybe_list int_long_cells int_long_record pair_places int_longs file.null_value_counts)
-    (conses (maybe_list int_bytes_cells int_bytes_record pair_places int_bytes file.lower_bounds)
-    (conses (maybe_list int_bytes_cells int_bytes_record pair_places int_bytes file.upper_bounds)
+    (conses (maybe_list int_long_cells int_long_record both int_long_back file.column_sizes)
+    (conses (maybe_list int_long_cells int_long_record both int_long_back file.value_counts)
+    (conses (maybe_list int_long_cells int_long_record both int_long_back file.null_value_counts)
+    (conses (maybe_list int_bytes_cells int_bytes_record both int_bytes_back file.lower_bounds)
+    (conses (maybe_list int_bytes_cells int_bytes_record both int_bytes_back file.upper_bounds)
     (conses (maybe Blob plain_blob file.key_metadata)
     (conses (maybe long_array plain_longs file.split_offsets)
     (conses (needed _ (plain_int _))
     (conses (maybe int_array plain_ints file.equality_ids)
-    (conses (maybe_list int_long_cells int_long_record pair_places int_longs file.nan_value_counts)
+    (conses (maybe_list int_long_cells int_long_record both int_long_back file.nan_value_counts)
     (conses (maybe Int plain_int file.sort_order_id)
     (conses (maybe Str plain_text file.referenced_data_file) refl))))))))))))))))
 

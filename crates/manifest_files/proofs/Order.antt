@@ -5,13 +5,14 @@ use Rattle.avro_datum.specs.declared.datum.Datum.{Datum}
 use Rattle.manifest_columns.specs.declared.slots.Slot.{Slot}
 use Rattle.manifest_columns.specs.declared.column.Kind.TheVariants.{Bool as Truth}
 use Rattle.manifest_cells.specs.Cells.{Cell, Sets, held, records_in, listed_as, int_long_cells, int_bytes_cells}
-use Rattle.manifest_cells.proofs.InOrder.{all_read}
+use Rattle.manifest_cells.specs.declared.field_err.FieldErr.{FieldErr}
+use Rattle.manifest_cells.specs.declared.field_err.FieldErr.TheVariants as errors
+use Rattle.manifest_cells.specs.FieldErrors.{OnBadField}
+use Rattle.manifest_cells.proofs.InOrder.{all_read, same_some}
 use Rattle.manifest_files.proofs.InOrder.{cells_length}
 use Rattle.manifest_files.specs.declared.file.DataFile.{DataFile}
-use Rattle.manifest_files.specs.declared.file.FieldErr.{FieldErr}
-use Rattle.manifest_files.specs.declared.file.FieldErr.TheVariants as errors
 use Rattle.manifest_files.specs.declared.partition.PartSlot.{PartSlot}
-use Rattle.manifest_files.specs.Files.{file_cells, file_cell, file_kinds, held_file_cells, FillsFile, NoFile, ReadsFile, OnBad}
+use Rattle.manifest_files.specs.Files.{file_cells, file_cell, file_kinds, held_file_cells, FillsFile, NoFile, ReadsFile}
 use Rattle.manifest_files.specs.Written.{file_fields}
 
 pub width : (file : DataFile) → length (file_cells file) ≡ 17
@@ -36,23 +37,10 @@ pub was_not_set : (n : ℕ) (c : Cell) (old now : DataFile) (b : Bool) → Fills
 was_not_set n c old now false h e = h
 was_not_set n c old now true h e = absurd cc
 
-pub no_file : (slots : List Slot) (parts : List PartSlot) (ds : List Datum) (r : Result DataFile FieldErr) → ReadsFile slots parts ds r → OnBad r (NoFile slots parts ds)
+pub no_file : (slots : List Slot) (parts : List PartSlot) (ds : List Datum) (r : Result DataFile FieldErr) → ReadsFile slots parts ds r → OnBadField r (NoFile slots parts ds)
 no_file slots parts ds (Ok file) h = tt
 no_file slots parts ds (Err errors.Memory) h = tt
 no_file slots parts ds (Err (errors.BadField id)) h = λ file e. h.fits_not file (ap (λ (cs : List Cell). slice_get cs h.place) e)
-
-same_some : {A : Type 0} {x y : A} → Some x ≡ Some y → x ≡ y
-same_some e = cc
-
-take_next : {A : Type 0} (fs : List A) (n : ℕ) (d : A) → slice_get fs n ≡ Some d → take (suc n) fs ≡ take n fs ++ d ∷ []
-take_next [] zero d e = absurd cc
-take_next [] (suc n) d e = absurd cc
-take_next (x ∷ xs) zero d e = ap (λ y. y ∷ []) (same_some e)
-take_next (x ∷ xs) (suc n) d e = ap (λ ys. x ∷ ys) (take_next xs n d e)
-
--- One more field is written.
-pub one_more : {A : Type 0} (fs : List A) (n m : ℕ) (xs ys : List A) (d : A) → m ≡ suc n → xs ≡ take n fs → slice_get fs n ≡ Some d → ys ≡ xs ++ d ∷ [] → ys ≡ take m fs
-one_more fs n m xs ys d next so_far at is = is ∙ ap (λ zs. zs ++ d ∷ []) so_far ∙ sym (take_next fs n d at) ∙ sym (ap (λ k. take k fs) next)
 
 -- A field was set, or doesn't fit.
 set_fits : {E A : Type 0} (r : Result Bool E) (n : ℕ) (c : Cell) (old new : DataFile) (said : A → Cell) (field : DataFile → A) (now : A) → (said now ≡ c → file_cells new ≡ set (file_cells old) n c) → ((f : DataFile) → slice_get (file_cells f) n ≡ Some (said (field f))) → IfOk r (λ fits. Sets said c fits now) → IfOk r (λ fits. FillsFile n c old fits new)

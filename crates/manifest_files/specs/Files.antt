@@ -1,5 +1,5 @@
 -- Which data file a record of a manifest stands for (Apache Iceberg specification, "Manifests").
-use Rattle.std.specs.Prelude.{◌≡◌, ℕ, ℤ, pos, List, [], ◌∷◌, map, take, set, Result, Ok, Err, Some, Bool, true, false}
+use Rattle.std.specs.Prelude.{◌≡◌, ◌<◌, ◌^◌, ℕ, ℤ, pos, List, [], ◌∷◌, map, take, set, Result, Ok, Err, Some, Bool, true, false}
 use Rattle.std.specs.Option.{option_map}
 use Rattle.std.specs.List.{slice_get}
 use Rattle.avro_datum.specs.declared.datum.Datum.{Datum}
@@ -10,11 +10,11 @@ use Rattle.manifest_columns.specs.declared.column.Kind.TheVariants.{Record}
 use Rattle.manifest_columns.specs.declared.slots.Slot.{Slot}
 use Rattle.manifest_columns.specs.Tables.{data_file_columns}
 use Rattle.manifest_cells.specs.Cells.{Cell, single, cell, held, listed_as, int_long_cells, int_bytes_cells, long_array, int_array}
+use Rattle.manifest_cells.specs.declared.field_err.FieldErr.{FieldErr}
+use Rattle.manifest_cells.specs.declared.field_err.FieldErr.TheVariants as errors
 use Rattle.manifest_files.specs.declared.file.Content.{Content}
 use Rattle.manifest_files.specs.declared.file.Content.TheVariants.{Rows, Positions, Equalities}
 use Rattle.manifest_files.specs.declared.file.DataFile.{DataFile}
-use Rattle.manifest_files.specs.declared.file.FieldErr.{FieldErr}
-use Rattle.manifest_files.specs.declared.file.FieldErr.TheVariants as errors
 use Rattle.manifest_files.specs.declared.partition.PartSlot.{PartSlot}
 use Rattle.manifest_files.specs.Partitions.{partition_in}
 
@@ -89,11 +89,9 @@ ReadsFile slots parts ds (Ok file) = IsFile slots parts ds file
 ReadsFile slots parts ds (Err errors.Memory) = Unit {0}
 ReadsFile slots parts ds (Err (errors.BadField id)) = IsBadFileAt slots parts ds id
 
--- What holds of a refusal that isn't want of memory.
-abbrev pub OnBad : {A : Type 0} → Result A FieldErr → Type 0 → Type 0
-OnBad (Ok x) P = Unit {0}
-OnBad (Err errors.Memory) P = Unit {0}
-OnBad (Err (errors.BadField id)) P = P
+-- The counts of the data file are such as a long has.
+abbrev pub CountsFit : DataFile → Type 0
+CountsFit file = (file.record_count < 2 ^ 63) × (file.file_size_in_bytes < 2 ^ 63)
 
 -- The field of a data file with this number was set to what the cell says, or no data file's is.
 abbrev pub FillsFile : ℕ → Cell → DataFile → Bool → DataFile → Type 0

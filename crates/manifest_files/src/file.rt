@@ -1,12 +1,8 @@
 //! Data files.
 
-ghost use Rattle.std.specs.Prelude.{◌≡◌};
-ghost use Rattle.manifest_files.specs.declared.file.FieldErr.TheVariants.{Memory};
-
 use avro_datum::Datum;
 use avro_schema::{Bytes, Text};
 use manifest_cells::{IdList, IntBytesList, IntList, IntLongList};
-use std::alloc::{AllocError, AllocFailed};
 
 /// What a file holds.
 #[derive(Clone, Copy, Debug, PartialEq, Eq)]
@@ -42,28 +38,4 @@ pub struct DataFile {
     pub equality_ids: Option<IntList>,
     pub sort_order_id: Option<i32>,
     pub referenced_data_file: Option<Text>,
-}
-
-/// Why a record is no data file, or no entry.
-#[derive(Debug, Drop)]
-pub enum FieldErr {
-    Memory,
-    /// The smallest id of a column whose value is no value of its field.
-    BadField(i32),
-}
-
-impl From<AllocError> for FieldErr {
-    ghost from_gives = { λ _ e. e ≡ Memory };
-
-    fn from(_e: AllocError) -> FieldErr {
-        FieldErr::Memory
-    }
-}
-
-impl<T: Drop> From<AllocFailed<T>> for FieldErr {
-    ghost from_gives = { λ _ e. e ≡ Memory };
-
-    fn from(_e: AllocFailed<T>) -> FieldErr {
-        FieldErr::Memory
-    }
 }

@@ -6,11 +6,9 @@ mod content;
 mod file;
 mod partition;
 mod reading;
-#[cfg(test)]
-mod tests;
 mod writing;
 
-pub use file::{Content, DataFile, FieldErr};
+pub use file::{Content, DataFile};
 pub use partition::{PartSlot, PartSlotList};
 pub use reading::file_of;
 pub use writing::{file_fields, files_are_read_back};

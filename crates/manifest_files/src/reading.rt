@@ -1,25 +1,28 @@
 //! A data file out of a record of the file.
 
 ghost use Rattle.std.specs.Prelude.{◌≡◌, ◌<◌, Some, IfOk, get_or, length};
+ghost use Rattle.std.specs.Bool.{OnTrue};
 ghost use Rattle.std.specs.List.{slice_get};
 ghost use Rattle.manifest_columns.specs.declared.column.Kind.TheVariants as kinds;
 ghost use Rattle.manifest_cells.specs.Cells.{Sets, held, int_bytes_cells, int_long_cells, listed_as, records_in};
-ghost use Rattle.manifest_files.specs.Files.{FillsFile, NoFile, OnBad, ReadsFile, file_cell, file_ids, file_kinds};
+ghost use Rattle.manifest_files.specs.Files.{CountsFit, FillsFile, ReadsFile, file_cell, file_ids, file_kinds};
 
 use crate::content::set_file_content;
-use crate::file::{Content, DataFile, FieldErr};
+use crate::file::{Content, DataFile};
 use crate::partition::{PartSlot, set_partition};
 use avro_datum::Datum;
 use avro_schema::Text;
 use manifest_cells::{
-    IntBytesList, IntLongList, held, set_count, set_int_bytes, set_int_longs, set_ints, set_longs,
-    set_optional_bytes, set_optional_int, set_optional_text, set_text,
+    FieldErr, IntBytesList, IntLongList, held, set_count, set_int_bytes, set_int_longs, set_ints,
+    set_longs, set_optional_bytes, set_optional_int, set_optional_text, set_text,
 };
 use manifest_columns::{Slot, data_file_columns};
 use std::alloc::{AllocError, Global};
 
 // A data file without anything in it.
-fn empty_file(alloc: Global) -> DataFile {
+fn empty_file(alloc: Global) -> DataFile
+    ensures { CountsFit result }
+{
     DataFile {
         content: Content::Rows,
         path: Text::new(String::new(alloc)),
@@ -68,7 +71,7 @@ fn set_int_bytes_at(
 }
 
 // Sets the field of a data file that is this one in the order of the ids.
-#[tactic(auto, unfolding(crate::specs::Files::file_cells))]
+#[tactic(auto, using(manifest_cells::proofs::InOrder::stays), unfolding(crate::specs::Files::file_cells))]
 fn fill(
     alloc: Global,
     place: usize,
@@ -77,8 +80,10 @@ fn fill(
     items: &[Datum],
     file: &mut DataFile,
 ) -> Result<bool, AllocError>
-    requires { place < 17 }
-    ensures { IfOk result (λ fits. FillsFile place (file_cell parts.now items.now (get_or file_kinds place kinds.Bool) slot.now) file.old fits file.new) }
+    requires place { place < 17 }
+    requires counts { CountsFit file.now }
+    ensures fills { IfOk result (λ fits. FillsFile place (file_cell parts.now items.now (get_or file_kinds place kinds.Bool) slot.now) file.old fits file.new) }
+    ensures counts { IfOk result (λ fits. OnTrue fits (CountsFit file.new)) }
 {
     let found = held(items, slot.place);
     match place {
@@ -113,7 +118,6 @@ fn id_at(place: usize) -> i32
 /// The data file that a record of the file stands for. The slots are those of the columns of a data file, in the order of
 /// their ids, and those of the partition type's fields. `BadField` has the smallest id that holds no value of its field, as a
 /// negative count or a content outside its numbers.
-
 pub fn file_of(
     alloc: Global,
     slots: &[Slot],
@@ -123,6 +127,8 @@ pub fn file_of(
     requires { length slots.now ≡ 17 }
     // Exactly the data file whose fields the record holds, or the first column that holds none.
     ensures exact { ReadsFile slots.now parts.now items.now result }
+    // So the data file may be written.
+    ensures counts { IfOk result CountsFit }
 {
     let mut file = empty_file(alloc);
     for place in 0..slots.len() {

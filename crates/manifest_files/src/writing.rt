@@ -1,7 +1,8 @@
 //! The record of a data file.
 
-ghost use Rattle.std.specs.Prelude.{◌≡◌, ◌<◌, ◌^◌, Some, IfOk};
+ghost use Rattle.std.specs.Prelude.{◌≡◌, ◌<◌, Some, IfOk};
 ghost use Rattle.std.specs.List.{slice_get};
+ghost use Rattle.manifest_files.specs.Files.{CountsFit};
 ghost use Rattle.manifest_files.specs.Written.{file_fields, FilesAreReadBack};
 
 use crate::content::file_content;
@@ -19,8 +20,7 @@ use std::alloc::{AllocError, Global};
 #[tactic(auto, unfolding(crate::specs::Written::file_fields))]
 fn field_of(alloc: Global, place: usize, file: &DataFile) -> Result<Datum, AllocError>
     requires place { place < 17 }
-    requires records { file.now.record_count < 2 ^ 63 }
-    requires size { file.now.file_size_in_bytes < 2 ^ 63 }
+    requires counts { CountsFit file.now }
     ensures { IfOk result (λ d. slice_get (file_fields file.now) place ≡ Some d) }
 {
     Ok(match place {
@@ -47,8 +47,7 @@ fn field_of(alloc: Global, place: usize, file: &DataFile) -> Result<Datum, Alloc
 
 /// The fields of a data file's record, in the order in which they are written.
 pub fn file_fields(alloc: Global, file: &DataFile) -> Result<DatumList, AllocError>
-    requires records { file.now.record_count < 2 ^ 63 }
-    requires size { file.now.file_size_in_bytes < 2 ^ 63 }
+    requires { CountsFit file.now }
     ensures { IfOk result (λ ds. ds ≡ file_fields file.now) }
 {
     let mut items = Items::new(alloc);

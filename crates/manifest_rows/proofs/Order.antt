@@ -7,12 +7,13 @@ use Rattle.avro_schema.specs.declared.schema.Field.{Field}
 use Rattle.manifest_columns.specs.declared.slots.Slot.{Slot}
 use Rattle.manifest_columns.specs.declared.column.Kind.TheVariants.{Bool as Truth}
 use Rattle.manifest_cells.specs.Cells.{Cell, cell, held, records_in, listed_as, Sets}
-use Rattle.manifest_cells.proofs.InOrder.{cells_length, all_read}
+use Rattle.manifest_cells.specs.declared.field_err.FieldErr.{FieldErr}
+use Rattle.manifest_cells.specs.declared.field_err.FieldErr.TheVariants as errors
+use Rattle.manifest_cells.specs.FieldErrors.{OnBadField}
+use Rattle.manifest_cells.proofs.InOrder.{cells_length, all_read, same_some}
 use Rattle.manifest_rows.specs.declared.row.FieldSummary.{FieldSummary}
 use Rattle.manifest_rows.specs.declared.row.ManifestRow.{ManifestRow}
-use Rattle.manifest_rows.specs.declared.row.RowErr.{RowErr}
-use Rattle.manifest_rows.specs.declared.row.RowErr.TheVariants as errors
-use Rattle.manifest_rows.specs.Rows.{cells, summary_cells, row_kinds, row_slots, held_cells, Fills, IsBadAt, NoRow, Reads, OnBadField}
+use Rattle.manifest_rows.specs.Rows.{cells, summary_cells, row_kinds, row_slots, held_cells, Fills, IsBadAt, NoRow, Reads}
 use Rattle.manifest_rows.specs.Written.{row_fields}
 
 pub width : (row : ManifestRow) → length (cells row) ≡ 15
@@ -32,9 +33,6 @@ held_width slots ds len = cells_length row_kinds slots ds (sym len) ∙ len
 pub all_filled : (slots : List Slot) (ds : List Datum) (n : ℕ) (row : ManifestRow) → length slots ≡ 15 → length slots ≤ n → take n (cells row) ≡ take n (held_cells slots ds) → cells row ≡ held_cells slots ds
 all_filled slots ds n row len all so_far = all_read (cells row) (held_cells slots ds) n (omega (arith, len, all, width row)) (omega (arith, len, all, held_width slots ds len)) so_far
 
-same_some : {A : Type 0} {x y : A} → Some x ≡ Some y → x ≡ y
-same_some e = cc
-
 list_filled : {E : Type 0} (r : Result Bool E) (slot : Slot) (ds : List Datum) (old : ManifestRow) (now : Option (List FieldSummary)) → IfOk r (λ fits. Sets (listed_as summary_cells) (records_in slot.within (held ds slot.place)) fits now) → IfOk r (λ fits. Fills 7 (cell (get_or row_kinds 7 Truth) slot ds) old fits (record old { partitions = now }))
 unfolding cells
 list_filled (Ok true) slot ds old now h = ap (λ (c : Cell). set (cells old) 7 c) h
@@ -53,17 +51,7 @@ pub was_not_set : (n : ℕ) (c : Cell) (old now : ManifestRow) (b : Bool) → Fi
 was_not_set n c old now false h e = h
 was_not_set n c old now true h e = absurd cc
 
-pub no_row : (slots : List Slot) (ds : List Datum) (r : Result ManifestRow RowErr) → Reads slots ds r → OnBadField r (NoRow slots ds)
+pub no_row : (slots : List Slot) (ds : List Datum) (r : Result ManifestRow FieldErr) → Reads slots ds r → OnBadField r (NoRow slots ds)
 no_row slots ds (Ok row) h = tt
 no_row slots ds (Err errors.Memory) h = tt
 no_row slots ds (Err (errors.BadField id)) h = λ row e. h.fits_not row (ap (λ (cs : List Cell). slice_get cs h.place) e)
-
-take_next : {A : Type 0} (fs : List A) (n : ℕ) (d : A) → slice_get fs n ≡ Some d → take (suc n) fs ≡ take n fs ++ d ∷ []
-take_next [] zero d e = absurd cc
-take_next [] (suc n) d e = absurd cc
-take_next (x ∷ xs) zero d e = ap (λ y. y ∷ []) (same_some e)
-take_next (x ∷ xs) (suc n) d e = ap (λ ys. x ∷ ys) (take_next xs n d e)
-
--- one more field is written
-pub one_more : {A : Type 0} (fs : List A) (n m : ℕ) (xs ys : List A) (d : A) → m ≡ suc n → xs ≡ take n fs → slice_get fs n ≡ Some d → ys ≡ xs ++ d ∷ [] → ys ≡ take m fs
-one_more fs n m xs ys d next so_far at is = is ∙ ap (λ zs. zs ++ d ∷ []) so_far ∙ sym (take_next fs n d at) ∙ sym (ap (λ k. take k fs) next)

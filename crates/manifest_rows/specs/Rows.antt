@@ -11,10 +11,10 @@ use Rattle.avro_schema.specs.declared.schema.Field.{Field}
 use Rattle.manifest_columns.specs.Slots.{slot_of}
 use Rattle.manifest_columns.specs.Tables.{row_columns}
 use Rattle.manifest_cells.specs.Cells.{Cell, single, cells_of, content_number, listed_as}
+use Rattle.manifest_cells.specs.declared.field_err.FieldErr.{FieldErr}
+use Rattle.manifest_cells.specs.declared.field_err.FieldErr.TheVariants as errors
 use Rattle.manifest_rows.specs.declared.row.FieldSummary.{FieldSummary}
 use Rattle.manifest_rows.specs.declared.row.ManifestRow.{ManifestRow}
-use Rattle.manifest_rows.specs.declared.row.RowErr.{RowErr}
-use Rattle.manifest_rows.specs.declared.row.RowErr.TheVariants as errors
 
 -- The fields of a summary in the order of their ids.
 abbrev pub summary_cells : FieldSummary → List (Option Datum)
@@ -77,16 +77,10 @@ abbrev pub NoRow : List Slot → List Datum → Type 0
 NoRow slots ds = (row : ManifestRow) → IsRow slots ds row → ⊥
 
 -- A row, or the id of the first column that doesn't fit.
-abbrev pub Reads : List Slot → List Datum → Result ManifestRow RowErr → Type 0
+abbrev pub Reads : List Slot → List Datum → Result ManifestRow FieldErr → Type 0
 Reads slots ds (Ok row) = IsRow slots ds row
 Reads slots ds (Err errors.Memory) = Unit {0}
 Reads slots ds (Err (errors.BadField id)) = IsBadAt slots ds id
-
--- What holds of a refusal that isn't want of memory.
-abbrev pub OnBadField : {A : Type 0} → Result A RowErr → Type 0 → Type 0
-OnBadField (Ok x) P = Unit {0}
-OnBadField (Err errors.Memory) P = Unit {0}
-OnBadField (Err (errors.BadField id)) P = P
 
 -- The field of a row with this number was set to what the cell says, or no row's is.
 abbrev pub Fills : ℕ → Cell → ManifestRow → Bool → ManifestRow → Type 0

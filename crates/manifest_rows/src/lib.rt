@@ -5,10 +5,8 @@
 mod reading;
 mod row;
 mod summaries;
-#[cfg(test)]
-mod tests;
 mod writing;
 
 pub use reading::{row_of, row_slots};
-pub use row::{FieldSummary, FieldSummaryList, ManifestRow, RowErr};
+pub use row::{FieldSummary, FieldSummaryList, ManifestRow};
 pub use writing::{row_fields, row_schema, rows_are_read_back};

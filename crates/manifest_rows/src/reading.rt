@@ -1,23 +1,27 @@
 //! A row out of a record of the file.
 
-ghost use Rattle.std.specs.Prelude.{◌≡◌, ◌<◌, Some, IfOk, get_or, length};
+ghost use Rattle.std.specs.Prelude.{◌≡◌, ◌<◌, ◌^◌, Some, IfOk, get_or, length};
+ghost use Rattle.std.specs.Bool.{OnTrue};
 ghost use Rattle.std.specs.List.{slice_get};
 ghost use Rattle.manifest_columns.specs.declared.column.Kind.TheVariants as kinds;
 ghost use Rattle.manifest_cells.specs.Cells.{cell};
-ghost use Rattle.manifest_rows.specs.Rows.{Fills, NoRow, OnBadField, Reads, row_ids, row_kinds, row_slots};
+ghost use Rattle.manifest_cells.specs.FieldErrors.{OnBadField};
+ghost use Rattle.manifest_rows.specs.Rows.{Fills, NoRow, Reads, row_ids, row_kinds, row_slots};
 
-use crate::row::{ManifestRow, RowErr};
+use crate::row::ManifestRow;
 use crate::summaries::set_summaries;
 use avro_datum::Datum;
 use avro_schema::{Field, Text};
 use manifest_cells::{
-    held, set_content, set_count, set_int, set_long, set_optional_bytes, set_text,
+    FieldErr, held, set_content, set_count, set_int, set_long, set_optional_bytes, set_text,
 };
 use manifest_columns::{Slot, SlotList, row_columns, slots_of};
 use std::alloc::{AllocError, Global};
 
 // A row without anything in it.
-fn empty_row(alloc: Global) -> ManifestRow {
+fn empty_row(alloc: Global) -> ManifestRow
+    ensures { result.manifest_length ≡ 0 }
+{
     ManifestRow {
         manifest_path: Text::new(String::new(alloc)),
         manifest_length: 0,
@@ -39,7 +43,7 @@ fn empty_row(alloc: Global) -> ManifestRow {
 }
 
 // Sets the field of a row that is this one in the order of the ids.
-#[tactic(auto, unfolding(crate::specs::Rows::cells))]
+#[tactic(auto, using(manifest_cells::proofs::InOrder::stays), unfolding(crate::specs::Rows::cells))]
 fn fill(
     alloc: Global,
     place: usize,
@@ -47,8 +51,10 @@ fn fill(
     items: &[Datum],
     row: &mut ManifestRow,
 ) -> Result<bool, AllocError>
-    requires { place < 15 }
-    ensures { IfOk result (λ fits. Fills place (cell (get_or row_kinds place kinds.Bool) slot.now items.now) row.old fits row.new) }
+    requires place { place < 15 }
+    requires length { row.now.manifest_length < 2 ^ 63 }
+    ensures fills { IfOk result (λ fits. Fills place (cell (get_or row_kinds place kinds.Bool) slot.now items.now) row.old fits row.new) }
+    ensures length { IfOk result (λ fits. OnTrue fits (row.new.manifest_length < 2 ^ 63)) }
 {
     let found = held(items, slot.place);
     match place {
@@ -78,16 +84,16 @@ fn id_at(place: usize) -> i32
     row_columns()[place].id
 }
 
-#[tactic(auto, using(crate::proofs::Order::all_filled))]
-fn filled(alloc: Global, slots: &[Slot], items: &[Datum]) -> Result<ManifestRow, RowErr>
+fn filled(alloc: Global, slots: &[Slot], items: &[Datum]) -> Result<ManifestRow, FieldErr>
     requires { length slots.now ≡ 15 }
-    ensures { Reads slots.now items.now result }
+    ensures exact { Reads slots.now items.now result }
+    ensures length { IfOk result (λ row. row.manifest_length < 2 ^ 63) }
 {
     let mut row = empty_row(alloc);
     for place in 0..slots.len() {
         let fits = fill(alloc, place, &slots[place], items, &mut row)?;
         if !fits {
-            return Err(RowErr::BadField(id_at(place)));
+            return Err(FieldErr::BadField(id_at(place)));
         }
     }
     Ok(row)
@@ -111,11 +117,13 @@ pub fn row_of(
     slots: &[Slot],
     items: &[Datum],
     at: usize,
-) -> Result<ManifestRow, RowErr>
+) -> Result<ManifestRow, FieldErr>
     requires { length slots.now ≡ 15 }
     // Exactly the row whose fields the record holds, or the first column that holds none.
     ensures exact { Reads slots.now items.now result }
     ensures at { IfOk result (λ row. row.at ≡ at) }
+    // So the row may be written.
+    ensures length { IfOk result (λ row. row.manifest_length < 2 ^ 63) }
     // A column is refused only where the record stands for no row.
     ensures none { OnBadField result (NoRow slots.now items.now) }
 {

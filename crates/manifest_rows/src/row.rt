@@ -1,11 +1,7 @@
 //! Rows.
 
-ghost use Rattle.std.specs.Prelude.{◌≡◌};
-ghost use Rattle.manifest_rows.specs.declared.row.RowErr.TheVariants.{Memory};
-
 use avro_schema::{Bytes, Text};
 use sqlite_items::Items;
-use std::alloc::{AllocError, AllocFailed};
 
 /// What the values of one partition field are in the files of a manifest.
 #[derive(Debug, Drop)]
@@ -41,28 +37,4 @@ pub struct ManifestRow {
     pub key_metadata: Option<Bytes>,
     /// Where the row begins in its file. It isn't written.
     pub at: usize,
-}
-
-/// Why a record is no row.
-#[derive(Debug, Drop)]
-pub enum RowErr {
-    Memory,
-    /// The smallest id of a column whose value is no value of the row's field.
-    BadField(i32),
-}
-
-impl From<AllocError> for RowErr {
-    ghost from_gives = { λ _ e. e ≡ Memory };
-
-    fn from(_e: AllocError) -> RowErr {
-        RowErr::Memory
-    }
-}
-
-impl<T: Drop> From<AllocFailed<T>> for RowErr {
-    ghost from_gives = { λ _ e. e ≡ Memory };
-
-    fn from(_e: AllocFailed<T>) -> RowErr {
-        RowErr::Memory
-    }
 }

@@ -1,7 +1,8 @@
 use Rattle.std.proofs.Common.{rules, ◌≡◌, ◌≤◌, ◌∙◌, arith, take_all}
 use Rattle.std.proofs.Math.Numerals.{add-one}
 use Rattle.manifest_rows.specs.Written.{row_fields}
-use Rattle.manifest_rows.proofs.Order.{field_count, one_more}
+use Rattle.manifest_cells.proofs.InOrder.{one_more}
+use Rattle.manifest_rows.proofs.Order.{field_count}
 use Rattle.manifest_rows.proofs.writing.row_fields.Goals as goal
 
 pub loop-place-preserved : goal.loop-place-preserved

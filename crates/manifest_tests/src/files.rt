@@ -1,14 +1,13 @@
-//! Data files as bytes by hand, after the Avro specification's "Binary Encoding" and the Iceberg specification's "Manifests".
+//! Data files.
 
-use super::*;
-use crate::partition::set_partition;
 use avro_datum::{Datum, DatumList, decode};
 use avro_schema::Schema;
-use manifest_cells::{null, some};
+use manifest_cells::{FieldErr, null, some};
 use manifest_columns::{
     RecordName, SlotList, data_file_columns, slots_of, written_data_file_columns, written_fields,
     written_record,
 };
+use manifest_files::{DataFile, PartSlot, file_fields, file_of, files_are_read_back};
 use sqlite_items::Items;
 use std::alloc::{AllocError, Global};
 use std::process::Abort;
@@ -51,23 +50,29 @@ fn slots(alloc: Global) -> Result<SlotList, AllocError> {
     slots_of(alloc, fields.as_slice(), &data_file_columns())
 }
 
-/// The data file that the bytes spell, where no partition has a field.
-fn file(alloc: Global, bytes: &[u8]) -> Result<DataFile, FieldErr> {
-    let slots = slots(alloc)?;
-    if slots.len() != 17 {
-        return Err(FieldErr::BadField(-1));
-    }
+/// The fields that the bytes of a written data file spell.
+fn items(alloc: Global, bytes: &[u8]) -> Result<DatumList, FieldErr> {
     match decode(alloc, &schema(alloc)?, bytes, 0) {
-        Ok((Datum::Fields(items), _)) => file_of(alloc, slots.as_slice(), &[], items.as_slice()),
+        Ok((Datum::Fields(items), _)) => Ok(items),
         _ => Err(FieldErr::BadField(-2)),
     }
 }
 
+/// The data file of these fields, with these of the partition type.
+fn file(alloc: Global, parts: &[PartSlot], items: &[Datum]) -> Result<DataFile, FieldErr> {
+    let slots = slots(alloc)?;
+    if slots.len() != 17 {
+        return Err(FieldErr::BadField(-1));
+    }
+    file_of(alloc, slots.as_slice(), parts, items)
+}
+
 fn is_written_again(rt: &impl Abort, alloc: Global, bytes: &[u8]) -> Result<(), Fail> {
-    let file = file(alloc, bytes)?;
+    let items = items(alloc, bytes)?;
+    let file = file(alloc, &[], items.as_slice())?;
     assert!(rt; file.record_count == 3 && file.file_size_in_bytes == 100);
     let written = Datum::Fields(file_fields(alloc, &file)?);
-    let (spelled, _) = decode(alloc, &schema(alloc)?, bytes, 0)?;
+    let spelled = Datum::Fields(items);
     assert_eq!(rt;
         format!(in alloc; "{written:?}")?.as_str(),
         format!(in alloc; "{spelled:?}")?.as_str()
@@ -83,19 +88,24 @@ fn files_both_ways(rt: HostRuntime) -> Result<(), Fail> {
     Ok(())
 }
 
+/// The id of the field that makes the bytes no data file.
+fn bad(alloc: Global, bytes: &[u8]) -> Result<Option<i32>, Fail> {
+    let items = items(alloc, bytes)?;
+    match file(alloc, &[], items.as_slice()) {
+        Err(FieldErr::BadField(id)) => Ok(Some(id)),
+        _ => Ok(None),
+    }
+}
+
 #[test]
 fn files_with_a_bad_field(rt: HostRuntime) -> Result<(), Fail> {
     for (bytes, id) in BAD {
-        let found = match file(rt.alloc(), bytes) {
-            Err(FieldErr::BadField(id)) => Some(id),
-            _ => None,
-        };
-        assert_eq!(rt; found, Some(id));
+        assert_eq!(rt; bad(rt.alloc(), bytes)?, Some(id));
     }
     Ok(())
 }
 
-/// 5, and 7 in a union.
+/// 5, 7 in a union, and null in one.
 fn partition(alloc: Global) -> Result<DatumList, AllocError> {
     let mut fields = Items::new(alloc);
     fields.push(Datum::Int(5))?;
@@ -112,12 +122,14 @@ fn part(place: Option<usize>, is_void: bool, is_long: bool) -> PartSlot {
     }
 }
 
-/// What is read of the partition for one field.
-fn projected(alloc: Global, slot: PartSlot) -> Result<Datum, Fail> {
-    let found = Datum::Fields(partition(alloc)?);
-    let mut read = Datum::Null;
-    set_partition(alloc, Some(&found), &[slot], &mut read)?;
-    Ok(read)
+/// What is read of that partition for one field.
+fn projected(alloc: Global, slot: PartSlot) -> Result<Datum, FieldErr> {
+    let mut items = items(alloc, BARE)?;
+    if items.len() != 17 {
+        return Err(FieldErr::BadField(-3));
+    }
+    items.set(3, Datum::Fields(partition(alloc)?));
+    Ok(file(alloc, &[slot], items.as_slice())?.partition)
 }
 
 /// The kind of a field, and its number.

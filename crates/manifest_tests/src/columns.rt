@@ -1,11 +1,13 @@
-//! Schemas of files by hand, after the Iceberg specification's "Manifest Lists", "Manifests" and Appendix A, "Avro".
+//! Schemas of files and of what is written.
 
-use super::*;
-use avro_schema::{FieldList, Schema, read_schema, write_schema};
+use avro_schema::{Field, FieldList, Schema, read_schema, write_schema};
+use manifest_columns::{
+    Column, Fault, RecordName, SlotList, data_file_columns, least_fault, place_of, row_columns,
+    schema_of, slots_of, summary_columns, written_record, written_row_columns,
+};
 use serde_json::Value;
 use sqlite_items::Items;
 use std::alloc::Global;
-use std::process::Abort;
 use std::test::Fail;
 
 /// The fields of the record that a text spells.
@@ -17,18 +19,24 @@ fn fields(alloc: Global, text: &str) -> Result<FieldList, Fail> {
     }
 }
 
-fn faults(
-    rt: &impl Abort,
-    alloc: Global,
-    columns: &[Column],
-    text: &str,
-    wanted: (Option<i32>, Option<i32>),
-) -> Result<(), Fail> {
-    let fields = fields(alloc, text)?;
-    let lacks = least_fault(Fault::Lacks, columns, fields.as_slice());
-    let bad = least_fault(Fault::Bad, columns, fields.as_slice());
-    assert_eq!(rt; (lacks, bad), wanted, "{text}");
-    Ok(())
+/// Ids of what lacks and of what is bad.
+type Found = (Option<i32>, Option<i32>);
+
+fn faults(columns: &[Column], fields: &[Field]) -> Found {
+    (
+        least_fault(Fault::Lacks, columns, fields),
+        least_fault(Fault::Bad, columns, fields),
+    )
+}
+
+/// The same of the column of this id alone, or of those of a field summary, which begin with 509.
+fn faults_of(id: i32, fields: &[Field]) -> Found {
+    match id {
+        507 => faults(&[row_columns()[7]], fields),
+        108 => faults(&[data_file_columns()[5]], fields),
+        132 => faults(&[data_file_columns()[11]], fields),
+        _ => faults(&summary_columns(), fields),
+    }
 }
 
 /// Found by id, in either order of a union, with other fields between.
@@ -36,91 +44,71 @@ const BY_ID: &str = r#"{"type":"record","name":"x","fields":[
 {"name":"a","type":["bytes","null"],"field-id":511},{"name":"contains_null","type":"string","field-id":1},
 {"name":"b","type":"boolean","field-id":509}]}"#;
 
-/// What lacks and what is bad of the fields of a summary.
-fn summary_cases() -> [(&'static str, (Option<i32>, Option<i32>)); 5] {
-    [
-        (BY_ID, (None, None)),
-        (
-            r#"{"type":"record","name":"x","fields":[{"name":"contains_null","type":"boolean","field-id":1}]}"#,
-            (Some(509), None),
-        ),
-        (
-            r#"{"type":"record","name":"x","fields":[{"name":"a","type":"boolean","field-id":509},
+/// Ids of columns, schemas, and what of them lacks and is bad.
+const CASES: [(i32, &str, Found); 11] = [
+    (509, BY_ID, (None, None)),
+    (
+        509,
+        r#"{"type":"record","name":"x","fields":[{"name":"contains_null","type":"boolean","field-id":1}]}"#,
+        (Some(509), None),
+    ),
+    (
+        509,
+        r#"{"type":"record","name":"x","fields":[{"name":"a","type":"boolean","field-id":509},
 {"name":"b","type":["null","boolean"],"field-id":518},{"name":"c","type":"bytes","field-id":510}]}"#,
-            (None, Some(510)),
-        ),
-        (
-            r#"{"type":"record","name":"x","fields":[{"name":"a","type":["null","int"],"field-id":518},
+        (None, Some(510)),
+    ),
+    (
+        509,
+        r#"{"type":"record","name":"x","fields":[{"name":"a","type":["null","int"],"field-id":518},
 {"name":"b","type":["null","string"],"field-id":511},{"name":"c","type":"boolean","field-id":509}]}"#,
-            (None, Some(511)),
-        ),
-        (
-            r#"{"type":"record","name":"x","fields":[{"name":"a","type":["null","boolean"],"field-id":509}]}"#,
-            (None, Some(509)),
-        ),
-    ]
-}
-
-#[test]
-fn faults_of_a_record(rt: HostRuntime) -> Result<(), Fail> {
-    for (text, wanted) in summary_cases() {
-        faults(&rt, rt.alloc(), &summary_columns(), text, wanted)?;
-    }
-    Ok(())
-}
-
-/// The same of 507 alone, of 108 and of 132.
-fn list_cases() -> [(usize, &'static str, (Option<i32>, Option<i32>)); 6] {
-    [
-        (
-            507,
-            r#"{"type":"record","name":"x","fields":[{"name":"p","field-id":507,"type":["null",{"type":"array","element-id":508,
+        (None, Some(511)),
+    ),
+    (
+        509,
+        r#"{"type":"record","name":"x","fields":[{"name":"a","type":["null","boolean"],"field-id":509}]}"#,
+        (None, Some(509)),
+    ),
+    (
+        507,
+        r#"{"type":"record","name":"x","fields":[{"name":"p","field-id":507,"type":["null",{"type":"array","element-id":508,
 "items":{"type":"record","name":"r","fields":[{"name":"n","type":["null","boolean"],"field-id":518}]}}]}]}"#,
-            (Some(509), None),
-        ),
-        (
-            507,
-            r#"{"type":"record","name":"x","fields":[{"name":"p","field-id":507,"type":[{"type":"array","element-id":7,
+        (Some(509), None),
+    ),
+    (
+        507,
+        r#"{"type":"record","name":"x","fields":[{"name":"p","field-id":507,"type":[{"type":"array","element-id":7,
 "items":{"type":"record","name":"r","fields":[]}},"null"]}]}"#,
-            (Some(508), None),
-        ),
-        (
-            507,
-            r#"{"type":"record","name":"x","fields":[{"name":"p","field-id":507,"type":["null","string"]}]}"#,
-            (None, Some(507)),
-        ),
-        (
-            108,
-            r#"{"type":"record","name":"x","fields":[{"name":"p","field-id":108,"type":["null",{"type":"array",
+        (Some(508), None),
+    ),
+    (
+        507,
+        r#"{"type":"record","name":"x","fields":[{"name":"p","field-id":507,"type":["null","string"]}]}"#,
+        (None, Some(507)),
+    ),
+    (
+        108,
+        r#"{"type":"record","name":"x","fields":[{"name":"p","field-id":108,"type":["null",{"type":"array",
 "items":{"type":"record","name":"r","fields":[{"name":"key","type":"long","field-id":117}]}}]}]}"#,
-            (Some(118), Some(117)),
-        ),
-        (
-            132,
-            r#"{"type":"record","name":"x","fields":[{"name":"p","field-id":132,"type":["null",{"type":"array","element-id":133,"items":"int"}]}]}"#,
-            (None, Some(133)),
-        ),
-        (
-            132,
-            r#"{"type":"record","name":"x","fields":[{"name":"p","field-id":132,"type":["null",{"type":"array","element-id":133,"items":"long"}]}]}"#,
-            (None, None),
-        ),
-    ]
-}
-
-/// One column, by its id.
-fn one_column(id: usize) -> [Column; 1] {
-    match id {
-        507 => [row_columns()[7]],
-        108 => [data_file_columns()[5]],
-        _ => [data_file_columns()[11]],
-    }
-}
+        (Some(118), Some(117)),
+    ),
+    (
+        132,
+        r#"{"type":"record","name":"x","fields":[{"name":"p","field-id":132,"type":["null",{"type":"array","element-id":133,"items":"int"}]}]}"#,
+        (None, Some(133)),
+    ),
+    (
+        132,
+        r#"{"type":"record","name":"x","fields":[{"name":"p","field-id":132,"type":["null",{"type":"array","element-id":133,"items":"long"}]}]}"#,
+        (None, None),
+    ),
+];
 
 #[test]
-fn faults_within_lists(rt: HostRuntime) -> Result<(), Fail> {
-    for (id, text, wanted) in list_cases() {
-        faults(&rt, rt.alloc(), &one_column(id), text, wanted)?;
+fn faults_of_schemas(rt: HostRuntime) -> Result<(), Fail> {
+    for (id, text, wanted) in CASES {
+        let fields = fields(rt.alloc(), text)?;
+        assert_eq!(rt; faults_of(id, fields.as_slice()), wanted, "{text}");
     }
     Ok(())
 }
@@ -174,7 +162,7 @@ fn written_row_schema(rt: HostRuntime) -> Result<(), Fail> {
 
 #[test]
 fn written_map_schema(rt: HostRuntime) -> Result<(), Fail> {
-    let text = written(rt.alloc(), RecordName::DataFile, &one_column(108))?;
+    let text = written(rt.alloc(), RecordName::DataFile, &[data_file_columns()[5]])?;
     assert_eq!(rt;
         text.as_str(),
         concat!(

@@ -1,13 +1,14 @@
-//! Entries in records by hand, after the Avro specification's "Binary Encoding" and the Iceberg specification's "Manifests".
+//! Entries.
 
-use super::*;
 use avro_datum::{Datum, decode};
 use avro_schema::Schema;
-use manifest_cells::optional_long;
+use manifest_cells::{FieldErr, optional_long};
 use manifest_columns::{
     RecordName, written_data_file_columns, written_entry_columns, written_fields, written_record,
 };
-use manifest_files::FieldErr;
+use manifest_entries::{
+    Entry, EntrySlots, EntryStatus, entries_are_read_back, entry_fields, entry_of, entry_slots,
+};
 use sqlite_items::Items;
 use std::alloc::{AllocError, Global};
 use std::test::Fail;

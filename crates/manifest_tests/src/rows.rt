@@ -1,8 +1,9 @@
-//! Rows as bytes by hand, after the Avro specification's "Binary Encoding" and the Iceberg specification's "Manifest Lists".
+//! Rows of a manifest list.
 
-use super::*;
 use avro_datum::{Datum, decode};
 use avro_schema::{Schema, read_schema};
+use manifest_cells::FieldErr;
+use manifest_rows::{ManifestRow, row_fields, row_of, row_schema, row_slots, rows_are_read_back};
 use serde_json::Value;
 use std::alloc::Global;
 use std::process::Abort;
@@ -42,14 +43,14 @@ fn other_schema(alloc: Global) -> Result<Schema, Fail> {
 }
 
 /// The row that the bytes spell under a schema of a record, as if it began at 5.
-fn row(alloc: Global, schema: &Schema, bytes: &[u8]) -> Result<ManifestRow, RowErr> {
+fn row(alloc: Global, schema: &Schema, bytes: &[u8]) -> Result<ManifestRow, FieldErr> {
     let Schema::Fields { fields, .. } = schema else {
-        return Err(RowErr::BadField(-1));
+        return Err(FieldErr::BadField(-1));
     };
     let slots = row_slots(alloc, fields.as_slice())?;
     match decode(alloc, schema, bytes, 0) {
         Ok((Datum::Fields(items), _)) => row_of(alloc, slots.as_slice(), items.as_slice(), 5),
-        _ => Err(RowErr::BadField(-2)),
+        _ => Err(FieldErr::BadField(-2)),
     }
 }
 
@@ -99,7 +100,7 @@ fn a_row_of_another_writer(rt: HostRuntime) -> Result<(), Fail> {
 /// The id of the field that makes the bytes of a written row no row.
 fn bad(alloc: Global, bytes: &[u8]) -> Result<Option<i32>, Fail> {
     match row(alloc, &row_schema(alloc)?, bytes) {
-        Err(RowErr::BadField(id)) => Ok(Some(id)),
+        Err(FieldErr::BadField(id)) => Ok(Some(id)),
         _ => Ok(None),
     }
 }
