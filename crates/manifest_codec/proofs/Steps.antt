@@ -1,5 +1,5 @@
 -- The objects of a file, step by step.
-use Rattle.std.proofs.Common.{◌≡◌, ◌≤◌, ◌<◌, ℕ, zero, suc, ◌-◌, ◌+◌, List, length, drop, Ok, Err, refl, sym, ap, ◌∙◌, arith, eq-eqb, slice_range}
+use Rattle.std.proofs.Common.{Bool, true, false, ◌≡◌, ◌≤◌, ◌<◌, ℕ, zero, suc, ◌-◌, ◌+◌, List, length, drop, Ok, Err, refl, sym, ap, ◌∙◌, arith, eq-eqb, slice_range}
 use Rattle.std.proofs.lemmas.List.{length-drop}
 use Rattle.std.proofs.lemmas.List.Edits.{length-between}
 use Rattle.std.proofs.lemmas.Bool.{ne_eqb}
@@ -11,7 +11,9 @@ use Rattle.avro_datum.specs.declared.datum.Datum.{Datum}
 use Rattle.avro_datum.specs.Reading.{read}
 use Rattle.avro_schema.specs.Form.{Form}
 use Rattle.manifest_codec.specs.declared.fault.ManifestCause.TheVariants.{Container, Value}
-use Rattle.manifest_codec.specs.Objects.{Objects, ended, stopped, object, in_block, in_blocks, with_block, with_object}
+use Rattle.manifest_codec.specs.Objects.{Objects, ended, stopped, object, in_block, in_blocks, with_block, with_object, objects_from, Reaches}
+use Rattle.manifest_codec.specs.declared.container.Container.{Container as File}
+use Rattle.manifest_codec.specs.declared.objects.Place.{Place}
 
 pub slice_len : (bytes : List ℕ) (from to : ℕ) → to ≤ length bytes → length (slice_range bytes from to) ≡ to - from
 slice_len bytes from to h = length-between bytes from to h
@@ -88,3 +90,8 @@ from_start f sync bytes end h =
 
 pub body_len : (bytes : List ℕ) (from to at : ℕ) → to ≤ length bytes → length (drop at (slice_range bytes from to)) ≡ to - from - at
 body_len bytes from to at h = omega (arith, length-drop at (slice_range bytes from to), slice_len bytes from to h)
+
+-- an object begins where that was answered
+pub reached : (file : File) (bytes : List ℕ) (old new : Place) (b : Bool) → Reaches file bytes old new (Ok b) → b ≡ true → (objects_from file bytes old ≡ objects_from file bytes new) × (0 < new.count)
+reached file bytes old new true h e = h
+reached file bytes old new false h e = absurd cc

@@ -45,7 +45,7 @@ in_blocks f sync n (suc most) bytes = if length bytes == 0 then ended else with_
 abbrev pub objects_from : File → List ℕ → Place → Objects
 objects_from file bytes p =
     in_block (form_of file.schema) p.from p.to (in_blocks (form_of file.schema) file.header.sync (length bytes) p.blocks (drop p.next bytes))
-        p.count (drop p.at (slice_range bytes p.from p.to))
+    p.count (drop p.at (slice_range bytes p.from p.to))
 
 -- The place lies within the bytes.
 pub record IsWithin (bytes : List ℕ) (p : Place) : Type 0 where

@@ -114,7 +114,23 @@ pub fn written_row_columns() -> [Column; 15]
     ensures { result ≡ written_row_columns }
 {
     let columns = ROW_COLUMNS;
-    [columns[0], columns[1], columns[2], columns[13], columns[11], columns[12], columns[3], columns[4], columns[5], columns[6], columns[8], columns[9], columns[10], columns[7], columns[14]]
+    [
+        columns[0],
+        columns[1],
+        columns[2],
+        columns[13],
+        columns[11],
+        columns[12],
+        columns[3],
+        columns[4],
+        columns[5],
+        columns[6],
+        columns[8],
+        columns[9],
+        columns[10],
+        columns[7],
+        columns[14],
+    ]
 }
 
 const SUMMARY_COLUMNS: [Column; 4] = [
@@ -352,5 +368,23 @@ pub fn written_data_file_columns() -> [Column; 17]
     ensures { result ≡ written_data_file_columns }
 {
     let columns = DATA_FILE_COLUMNS;
-    [columns[12], columns[0], columns[1], columns[2], columns[3], columns[4], columns[5], columns[6], columns[7], columns[14], columns[8], columns[9], columns[10], columns[11], columns[13], columns[15], columns[16]]
+    [
+        columns[12],
+        columns[0],
+        columns[1],
+        columns[2],
+        columns[3],
+        columns[4],
+        columns[5],
+        columns[6],
+        columns[7],
+        columns[14],
+        columns[8],
+        columns[9],
+        columns[10],
+        columns[11],
+        columns[13],
+        columns[15],
+        columns[16],
+    ]
 }
