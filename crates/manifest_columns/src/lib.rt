@@ -15,7 +15,7 @@ pub use column::{Column, Kind};
 pub use faults::{Fault, least_fault, smaller};
 pub use name::{Name, RecordName};
 pub use places::{place_of, schema_of};
-pub use shapes::type_of;
+pub use shapes::{fields_of, type_of};
 pub use slots::{PlaceList, Slot, SlotList, slot_of, slots_of};
 pub use tables::{
     data_file_columns, entry_columns, row_columns, summary_columns, written_data_file_columns,

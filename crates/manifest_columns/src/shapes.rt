@@ -95,7 +95,7 @@ pub(crate) fn item_under(id: i32, schema: &Schema) -> Option<&Schema>
 }
 
 /// The fields of a record.
-pub(crate) fn fields_of(schema: &Schema) -> Option<&[Field]>
+pub fn fields_of(schema: &Schema) -> Option<&[Field]>
     ensures { option_map (λ fields. fields.now) result ≡ fields_of (out-Schema schema.now) }
 {
     match schema {

@@ -1,0 +1,12 @@
+//! Manifest lists as files (Apache Iceberg specification, "Manifest Lists"): container files whose objects are records, each
+//! of which stands for a row.
+#![tactic(auto)]
+
+mod container;
+mod fault;
+mod lists;
+mod objects;
+mod schemas;
+
+pub use fault::{ManifestCause, ManifestErr};
+pub use lists::{RowList, read_list};
