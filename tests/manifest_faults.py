@@ -6,7 +6,7 @@ byte that is wrong, and where bytes lack, at their end: that of the block, or of
 import copy
 import json
 
-from avro_bytes import Codec, block, header, read_container
+from avro_bytes import Codec, block, header, number, read_container
 
 DEPTH, FIELDS = 32, 4096  # a schema's limits: types within one another, and record fields in all
 NEGATIVE = {"manifest": [(103, "record_count"), (104, "file_size_in_bytes")], "list": [(501, "manifest_length")]}
@@ -60,9 +60,14 @@ def of_schema(kind, schema):
     yield "schema_unknown_type", bare('"text"'), "BadSchema", 4
     yield "schema_no_record", bare('"long"'), "BadSchema", 4
     yield "schema_array", bare(json.dumps({"type": "array", "items": schema})), "BadSchema", 4
-    deep = "long"
-    for _ in range(DEPTH):
+    deep, most = "long", FIELDS - sum(len(record["fields"]) for record in records(schema))
+    for n in range(DEPTH):
+        if n == DEPTH - 2:  # with the record around it and the long within it
+            yield "schema_as_deep_as_may_be", bare(json.dumps({**schema, "fields": schema["fields"] + [{"name": "deep", "type": deep}]})), "none", None
         deep = {"type": "array", "items": deep}
+    widest = schema["fields"] + [{"name": f"w{n}", "type": "int"} for n in range(most)]
+    yield "schema_as_wide_as_may_be", bare(json.dumps({**schema, "fields": widest})), "none", None
+    yield "schema_too_wide_by_1", bare(json.dumps({**schema, "fields": widest + [{"name": "w", "type": "int"}]})), "SchemaSize", 4
     for name, extra in (("deep", [{"name": "deep", "type": deep}]), ("wide", [{"name": f"w{n}", "type": "int"} for n in range(FIELDS)])):
         large = {**schema, "fields": schema["fields"] + extra}
         yield f"schema_{name}", bare(json.dumps(large)), "SchemaSize", 4
@@ -79,6 +84,12 @@ def of_schema(kind, schema):
             yield f"without_null_{id}", bare(changed(schema, n, place, lambda of: [{**of, "type": of["type"][1]}])), f"BadField({id})", 4
         if id != 2:
             yield f"other_type_{id}", bare(changed(schema, n, place, lambda of: [other_type(of)])), f"BadField({id})", 4
+    for id in (508,) if kind == "list" else (133, 136):
+        text = json.dumps(schema)
+        yield f"renumbered_{id}", bare(text.replace(f'"element-id": {id}', '"element-id": 9999')), f"LacksField({id})", 4
+        items = {133: ("long", "string"), 136: ("int", "long")}.get(id)
+        if items:
+            yield f"other_type_{id}", bare(text.replace(*(f'"items": "{name}"' for name in items))), f"BadField({id})", 4
     # of two that lack the smaller id is told, and one that lacks before a smaller one of another type
     first, second = (500, 501) if kind == "list" else (100, 101)
     text = json.dumps(schema).replace(f'"field-id": {second}}}', '"field-id": 9998}')
@@ -100,6 +111,12 @@ def of_container(made, kind):
     yield "schema_no_utf8", spoilt, "Container(BadUtf8)", spoilt.index(b'\x06"\xff"')
     yield "marker", data[:-1] + bytes([data[-1] ^ 1]), "Container(BadSync)", len(data) - 16
     yield "cut_in_marker", data[:-1], "Container(Short)", len(data) - 1
+    alone = bare(text)
+    yield "block_count_minus_1", alone + number(-1) + number(0) + bytes(16), "Container(NegativeCount)", len(alone)
+    yield "block_size_minus_1", alone + number(1) + number(-1) + bytes(16), "Container(NegativeCount)", len(alone) + 1
+    yield "block_count_of_11_bytes", alone + b"\x80" * 10 + b"\1", "Container(TooLong)", len(alone)
+    yield "block_too_large", alone + number(1) + number(2**26 + 1) + bytes(16), "Container(BlockTooLarge)", len(alone) + 1
+    yield "too_many_objects", alone + number(2**24 + 1) + number(0) + bytes(16), "Container(TooMany)", len(alone)
 
 
 def of_values(made, kind):
@@ -118,6 +135,8 @@ def of_values(made, kind):
         yield f"block_cut_at_{id}", cut, "Value(Short)", len(cut) - 16  # the end of the block, before its marker
         whole = bare(text, body, 1)
         yield f"file_cut_at_{id}", whole[:at + end], "Container(Short)", at + end
+    places = dict(ends)
+    yield from spelled_otherwise(text, body, at, places, kind)
     longer = bare(text, body + b"\0", 1)
     yield "block_too_long", longer, "Container(BadSize)", longer.rindex(body)
     for id, name, value in [(id, name, -1) for id, name in NEGATIVE[kind]] + NUMBERS[kind]:
@@ -125,6 +144,28 @@ def of_values(made, kind):
         (spoilt if name in spoilt and id != 134 else spoilt["data_file"])[name] = value
         second = bare(text, body + coder.encode(spoilt), 2)
         yield f"{name}_{id}_{'minus_1' if value < 0 else value}", second, f"BadField({id})", read_container(second)[1][1][0]
+
+
+def spelled_otherwise(text, body, at, places, kind):
+    """An object in which one number, text or list is none, at its first byte."""
+    a_text, an_int, may_lack = (500, 502, 519) if kind == "list" else (100, 0, 1)
+
+    def spoilt(id, took, gave, skipped=0):
+        begins = places[id] + skipped
+        assert body[begins:].startswith(took)
+        return bare(text, body[:begins] + gave + body[begins + len(took):], 1)
+
+    yield "text_of_length_minus_1", spoilt(a_text, body[places[a_text]:][:1], b"\1"), "Value(NegativeLength)", at + places[a_text]
+    yield "text_no_utf8", spoilt(a_text, body[places[a_text]:][1:2], b"\xff", 1), "Value(BadUtf8)", at + places[a_text]
+    for name, gave in (("of_33_bits", number(2**31)), ("of_11_bytes", b"\x80" * 10 + b"\1")):
+        bad = spoilt(an_int, body[places[an_int]:][:1], gave)
+        yield f"int_{name}", bad, "Value(NumberTooLong)", bad.rindex(gave)
+    for branch in (2, -1):
+        yield f"branch_{branch}", spoilt(may_lack, b"\0", number(branch)), "Value(BadBranch)", at + places[may_lack]
+    if kind == "manifest":
+        items = number(4) + number(2**32)
+        bad = spoilt(132, number(1) + number(2) + items, number(1) + number(-2) + number(len(items) + 1) + items)
+        yield "list_of_another_size", bad, "Value(BadSize)", bad.rindex(items)
 
 
 def within(coder, schema, value):

@@ -40,7 +40,12 @@ fn part_of<R: Files + Alloc<A = Global>>(rt: &R, schema: &str, spec: &str) -> Re
     told(partition_type(rt.alloc(), &spec, &schemas))
 }
 
-fn manifest<R: Files + Alloc<A = Global>>(rt: &R, bytes: &[u8], part: &PartType, out: Option<&str>) -> Result<usize> {
+fn manifest<R: Files + Alloc<A = Global>>(
+    rt: &R,
+    bytes: &[u8],
+    part: &PartType,
+    out: Option<&str>,
+) -> Result<usize> {
     let manifest = told(read_manifest(rt.alloc(), bytes, part))?;
     if let Some(out) = out {
         let written = told(write_manifest(rt.alloc(), &manifest, part, &MARKER))?;
@@ -69,7 +74,11 @@ fn run<R: Files + Env + Print + Alloc<A = Global>>(rt: &R) -> Result<()> {
     let (Some(out), Some(schema), Some(spec)) = (words.next(), words.next(), words.next()) else {
         bail!("MODE KIND FILE ROUNDS OUT SCHEMA SPEC");
     };
-    let out = if mode.as_str() == "write" { Some(out.as_str()) } else { None };
+    let out = if mode.as_str() == "write" {
+        Some(out.as_str())
+    } else {
+        None
+    };
     let part = part_of(rt, schema.as_str(), spec.as_str())?;
     for _ in 0..rounds.parse::<u32>()? {
         let bytes = fs::read(rt, path.as_str())?;
