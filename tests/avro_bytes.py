@@ -142,6 +142,8 @@ class Codec:
             return dict(pairs), at
         if kind in ("int", "long", "enum"):
             value, at = read_number(data, at)
+            if kind != "long" and not -(2**31) <= value < 2**31:
+                raise ValueError(f"the int before {at} has more than 32 bits")
             return (schema["symbols"][value] if kind == "enum" else value), at
         if kind in ("string", "bytes"):
             size, at = read_number(data, at)
@@ -184,6 +186,8 @@ def read_container(data):
     while at < len(data):
         count, at = read_number(data, at)
         size, begins = read_number(data, at)
+        if count < 0:
+            raise ValueError(f"a block of {count} objects before {begins}")
         body, end = take(data, begins, size)
         body, within = (zlib.decompress(body, -15) if name == "deflate" else body), 0
         for _ in range(count):
