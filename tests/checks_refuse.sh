@@ -72,6 +72,7 @@ faults = [
     ("docs/STATUSES.md", "\n[there](NOWHERE.md) and [here](#no-such-heading)\n", "NOWHERE.md leads nowhere"),
     ("docs/STATUSES.md", "", "#no-such-heading leads to no heading"),
     ("docs/STATUSES.md", "\nRun `tests/nothing.sh`.\n", "there is no tests/nothing.sh"),
+    ("tests/manifests/broken.json", "\n", "isn't what the script makes"),
     ("docs/STATUSES.md", "\nSee `ice_store/src/nothing.rt`.\n", "there is no crates/ice_store/src/nothing.rt"),
 ]
 for name, text, _ in faults:
