@@ -23,7 +23,7 @@ use Rattle.manifest_columns.specs.Tables.{row_columns}
 use Rattle.manifest_rows.specs.declared.row.ManifestRow.{ManifestRow}
 use Rattle.manifest_rows.specs.Rows.{row_slots}
 use Rattle.manifest_codec.specs.declared.fault.ManifestCause.{ManifestCause}
-use Rattle.manifest_codec.specs.declared.fault.ManifestCause.TheVariants.{Container}
+use Rattle.manifest_codec.specs.declared.fault.ManifestCause.TheVariants.{Container, Value}
 use Rattle.avro_container.specs.declared.fault.ContainerCause.TheVariants.{Short}
 use Rattle.manifest_codec.specs.Faults.{Fault, ◌>>=◌, placed, at_schema}
 use Rattle.manifest_codec.specs.Objects.{Objects, ended, stopped, object, with_object, in_block, with_block, in_blocks}
@@ -61,7 +61,7 @@ no_bytes false bytes slots cause at f next rows e h = none_of slots cause at row
 -- the values behind an object
 step : (slots : List Slot) (f : Form) (end : ℕ) (next : Objects) (n : ℕ) (bytes : List ℕ) (behind : List ℕ → Objects) (r : Read DatumCause Datum) (rows : List ManifestRow) → read f bytes ≡ r
     → ((rest : List ℕ) (rows : List ManifestRow) → AreRows slots (behind rest) rows → Inside slots f n rest next rows) → AreRows slots (with_object end (length bytes) r behind) rows → Inside slots f (suc n) bytes next rows
-step slots f end next n bytes behind (Err (cause, left)) rows e go h = none_of slots _ _ rows h
+step slots f end next n bytes behind (Err (cause, left)) rows e go h = none_of slots (Value cause) (end - left) rows h
 step slots f end next n bytes behind (Ok (d, rest)) [] e go h = absurd h
 step slots f end next n bytes behind (Ok (d, rest)) (row ∷ rows) e go h =
     let more = go rest rows h.1 in
@@ -97,9 +97,9 @@ no_blocks slots f sync bytes (row ∷ rows) e h = absurd h
 
 block : (slots : List Slot) (f : Form) (sync : List ℕ) (n : ℕ) (bytes : List ℕ) (behind : List ℕ → Objects) (r : Read ContainerCause (ℕ × List ℕ)) (rows : List ManifestRow) → container_block_at sync bytes ≡ r
     → ((rest : List ℕ) (rows : List ManifestRow) → AreRows slots (behind rest) rows → Blocks slots f sync rest rows) → AreRows slots (with_block f n behind r) rows → Blocks slots f sync bytes rows
-block slots f sync n bytes behind (Err (cause, left)) rows e go h = none_of slots _ _ rows h
+block slots f sync n bytes behind (Err (cause, left)) rows e go h = none_of slots (Container cause) (n - left) rows h
 block slots f sync n bytes behind (Ok ((count, body), rest)) rows e go h =
-    let own = inside slots f _ _ (behind rest) count body rows h in
+    let own = inside slots f (n - length rest - 16 - length body) (n - length rest - 16) (behind rest) count body rows h in
     let more = go rest own.more own.behind in
     let front = block_found sync bytes count body rest e in
     let P : ℕ → Type 0 = λ k. SpellsBlock sync k body front.0 in
@@ -119,7 +119,7 @@ unfolding in_blocks
 whole slots f sync n zero bytes rows h = next_in slots f sync bytes (stopped (Container Short) n) (length bytes == 0) rows refl (none_of slots (Container Short) n rows) h
 whole slots f sync n (suc most) bytes rows h =
     next_in slots f sync bytes (with_block f n (in_blocks f sync n most) (container_block_at sync bytes)) (length bytes == 0) rows refl
-        (block slots f sync n bytes (in_blocks f sync n most) (container_block_at sync bytes) rows refl (λ rest rows h. whole slots f sync n most rest rows h)) h
+    (block slots f sync n bytes (in_blocks f sync n most) (container_block_at sync bytes) rows refl (λ rest rows h. whole slots f sync n most rest rows h)) h
 
 -- what a head gives, and what a header and a schema give
 abbrev to_file : ℕ → Head → Result (List Field × Objects) Fault
@@ -129,7 +129,7 @@ abbrev to_head : List ℕ → List ℕ → Schema → List Field → Result Head
 to_head sync rest s fs = Ok (s, fs, sync, rest)
 
 abbrev of_schema_at : List ℕ → List ℕ → Schema → Result Head Fault
-of_schema_at sync rest s = at_schema (checked row_columns (fields_of (out-Schema s))) >>= to_head sync rest
+of_schema_at sync rest s = at_schema (checked row_columns (fields_of (out-Schema s))) >>= to_head sync rest s
 
 abbrev of_header_at : Said × List ℕ → Result Head Fault
 of_header_at h = at_schema (text_schema (read_text h.0.0)) >>= of_schema_at h.0.2 h.1
