@@ -1,3 +1,4 @@
 pub mod Checks
 pub mod Steps
 pub mod Rows
+pub mod Spelled

@@ -9,4 +9,4 @@ mod objects;
 mod schemas;
 
 pub use fault::{ManifestCause, ManifestErr};
-pub use lists::{RowList, read_list};
+pub use lists::{RowList, lists_are_spelled, read_list};

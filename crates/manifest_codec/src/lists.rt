@@ -11,6 +11,7 @@ ghost use Rattle.manifest_codec.specs.Faults.{OnFault};
 ghost use Rattle.manifest_codec.specs.Objects.{objects_from, IsWithin};
 ghost use Rattle.manifest_codec.specs.Schemas.{file_at};
 ghost use Rattle.manifest_columns.specs.Slots.{known_fields};
+ghost use Rattle.manifest_codec.specs.Spelling.{ListsAreSpelled};
 ghost use Rattle.manifest_codec.specs.Lists.{GivesList, GivesRow, GivesRows, IsList, NoList};
 
 use crate::container::Container;
@@ -91,3 +92,10 @@ pub fn read_list(alloc: Global, bytes: &[u8]) -> Result<RowList, ManifestErr>
     let place = first_place(bytes, file.header.end);
     rows_from(alloc, &file, slots.as_slice(), bytes, place)
 }
+
+/// What is read as a list is spelled as one: a header whose schema is a record with the columns of a row, and blocks of
+/// records that stand for the rows.
+#[tactic(auto, using(crate::proofs::Spelled::spelled))]
+pub fn lists_are_spelled()
+    ensures { ListsAreSpelled }
+{}
