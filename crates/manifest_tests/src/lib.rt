@@ -3,6 +3,7 @@
 //!
 //! - `columns`: what is wrong with a file's schema, where it has the columns, and the schemas that are written.
 //! - `rows`, `files`, `entries`: records read and written.
+//! - `lists`: whole files of lists.
 //! - `parts`: what a file's schema has of a partition.
 #![tactic(auto)]
 
@@ -12,6 +13,8 @@ mod columns;
 mod entries;
 #[cfg(test)]
 mod files;
+#[cfg(test)]
+mod lists;
 #[cfg(test)]
 mod parts;
 #[cfg(test)]

@@ -1,0 +1,55 @@
+//! Manifest lists as files.
+
+use manifest_codec::{ManifestCause, ManifestErr, lists_are_spelled, read_list};
+use std::process::Abort;
+use std::test::Fail;
+
+/// A list of two equal rows of deletes: /m, 7 bytes, spec 1, sequences 4 and 3, snapshot 9. The bytes are those of a writer
+/// of its own, in Python.
+const TWO_ROWS: &[u8] =
+    b"Obj\x01\x04\x14avro.codec\x08null\x16avro.schema\xc6\x14{\"fields\":[{\"field-id\":500,\"name\":\"manifest_pat\
+    h\",\"type\":\"string\"},{\"field-id\":501,\"name\":\"manifest_length\",\"type\":\"long\"},{\"field-id\":502,\
+    \"name\":\"partition_spec_id\",\"type\":\"int\"},{\"field-id\":517,\"name\":\"content\",\"type\":\"int\"},{\"f\
+    ield-id\":515,\"name\":\"sequence_number\",\"type\":\"long\"},{\"field-id\":516,\"name\":\"min_sequence_number\
+    \",\"type\":\"long\"},{\"field-id\":503,\"name\":\"added_snapshot_id\",\"type\":\"long\"},{\"field-id\":504,\"\
+    name\":\"added_files_count\",\"type\":\"int\"},{\"field-id\":505,\"name\":\"existing_files_count\",\"type\":\"\
+    int\"},{\"field-id\":506,\"name\":\"deleted_files_count\",\"type\":\"int\"},{\"field-id\":512,\"name\":\"added\
+    _rows_count\",\"type\":\"long\"},{\"field-id\":513,\"name\":\"existing_rows_count\",\"type\":\"long\"},{\"fiel\
+    d-id\":514,\"name\":\"deleted_rows_count\",\"type\":\"long\"},{\"default\":null,\"field-id\":507,\"name\":\"pa\
+    rtitions\",\"type\":[\"null\",{\"element-id\":508,\"items\":{\"fields\":[{\"field-id\":509,\"name\":\"contains\
+    _null\",\"type\":\"boolean\"},{\"default\":null,\"field-id\":518,\"name\":\"contains_nan\",\"type\":[\"null\",\
+    \"boolean\"]},{\"default\":null,\"field-id\":510,\"name\":\"lower_bound\",\"type\":[\"null\",\"bytes\"]},{\"de\
+    fault\":null,\"field-id\":511,\"name\":\"upper_bound\",\"type\":[\"null\",\"bytes\"]}],\"name\":\"r508\",\"typ\
+    e\":\"record\"},\"type\":\"array\"}]},{\"default\":null,\"field-id\":519,\"name\":\"key_metadata\",\"type\":[\
+    \"null\",\"bytes\"]}],\"name\":\"manifest_file\",\"type\":\"record\"}\x00\x00\x01\x02\x03\x04\x05\x06\x07\x08\
+    \x09\x0a\x0b\x0c\x0d\x0e\x0f\x04D\x04/m\x0e\x02\x02\x08\x06\x12\x02\x00\x00\x04\x00\x00\x00\x00\x04/m\x0e\x02\
+    \x02\x08\x06\x12\x02\x00\x00\x04\x00\x00\x00\x00\x00\x01\x02\x03\x04\x05\x06\x07\x08\x09\x0a\x0b\x0c\x0d\x0e\
+    \x0f";
+
+#[test]
+fn rows_of_a_list(rt: HostRuntime) -> Result<(), Fail> {
+    lists_are_spelled();
+    let rows = read_list(rt.alloc(), TWO_ROWS)?;
+    let there = match rows.as_slice() {
+        [a, b] => a.at == 1369 && b.at == 1386 && a.manifest_path.as_str() == "/m" && b.is_deletes,
+        _ => false,
+    };
+    assert!(rt; there);
+    Ok(())
+}
+
+#[test]
+fn a_list_that_is_cut(rt: HostRuntime) -> Result<(), Fail> {
+    let cut = &TWO_ROWS[..TWO_ROWS.len() - 1];
+    let at = match read_list(rt.alloc(), cut) {
+        Err(
+            ManifestErr::Bad {
+                at,
+                cause: ManifestCause::Container(_),
+            },
+        ) => at,
+        _ => 0,
+    };
+    assert_eq!(rt; at, 1418);
+    Ok(())
+}
