@@ -33,6 +33,8 @@ def read_number(data, at):
         n |= (data[at] & 127) << shift
         at += 1
         if data[at - 1] < 128:
+            if n >= 2**64:
+                raise ValueError(f"the number before {at} has more than 64 bits")
             return (n >> 1) ^ -(n & 1), at
     raise ValueError(f"more than ten bytes in the number before {at}")
 
@@ -129,7 +131,9 @@ class Codec:
         kind, schema = self.found(self.schema if schema is None else schema)
         if kind == "union":
             branch, at = read_number(data, at)
-            return self.decode(data, at, schema[branch] if branch >= 0 else None)
+            if not 0 <= branch < len(schema):
+                raise ValueError(f"there is no branch {branch} before {at}")
+            return self.decode(data, at, schema[branch])
         if kind == "record":
             value = {}
             for field in schema["fields"]:
@@ -144,6 +148,8 @@ class Codec:
             value, at = read_number(data, at)
             if kind != "long" and not -(2**31) <= value < 2**31:
                 raise ValueError(f"the int before {at} has more than 32 bits")
+            if kind == "enum" and not 0 <= value < len(schema["symbols"]):
+                raise ValueError(f"there is no symbol {value} before {at}")
             return (schema["symbols"][value] if kind == "enum" else value), at
         if kind in ("string", "bytes"):
             size, at = read_number(data, at)
@@ -173,7 +179,7 @@ def block(count, body, sync, codec="null"):
 
 
 def read_container(data):
-    """The keys of a container file, and its objects, each with the offset at which it begins."""
+    """The keys of a container file, and its objects, each with the offset at which it begins in the file, where the codec is null."""
     if data[:4] != MAGIC:
         raise ValueError("no container")
     strings = Codec({"type": "map", "values": "bytes"})

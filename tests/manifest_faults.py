@@ -14,9 +14,9 @@ NUMBERS = {"manifest": [(0, "status", 3), (0, "status", -1), (134, "content", 3)
            "list": [(517, "content", 2), (517, "content", -1)]}
 
 
-def bare(text, body=b"", count=0, **keys):
+def bare(text, body=b"", count=0):
     """A container file with this text as its schema."""
-    meta = {"avro.schema": text if isinstance(text, bytes) else text.encode(), **{key.replace("_", "."): value for key, value in keys.items()}}
+    meta = {"avro.schema": text if isinstance(text, bytes) else text.encode()}
     return header(meta, bytes(16)) + (block(count, body, bytes(16)) if count else b"")
 
 
@@ -55,11 +55,17 @@ def other_type(of):
 
 
 def of_schema(kind, schema):
-    text = json.dumps(schema)
     yield "schema_no_json", bare("{"), "BadSchema", 4
     yield "schema_unknown_type", bare('"text"'), "BadSchema", 4
     yield "schema_no_record", bare('"long"'), "BadSchema", 4
     yield "schema_array", bare(json.dumps({"type": "array", "items": schema})), "BadSchema", 4
+    yield from of_limits(schema)
+    yield from of_fields(kind, schema)
+    yield from of_order(kind, schema)
+
+
+def of_limits(schema):
+    """A schema at its limits, and beyond them."""
     deep, most = "long", FIELDS - sum(len(record["fields"]) for record in records(schema))
     for n in range(DEPTH):
         if n == DEPTH - 2:  # with the record around it and the long within it
@@ -72,6 +78,10 @@ def of_schema(kind, schema):
         large = {**schema, "fields": schema["fields"] + extra}
         yield f"schema_{name}", bare(json.dumps(large)), "SchemaSize", 4
         yield f"schema_{name}_lacks_too", bare(json.dumps({**large, "fields": extra})), "SchemaSize", 4
+
+
+def of_fields(kind, schema):
+    """Each field lacking, or of another type."""
     for n, place, of in every_field(schema):
         may_lack, id = isinstance(of["type"], list), of["field-id"]
         if not may_lack:
@@ -90,7 +100,10 @@ def of_schema(kind, schema):
         items = {133: ("long", "string"), 136: ("int", "long")}.get(id)
         if items:
             yield f"other_type_{id}", bare(text.replace(*(f'"items": "{name}"' for name in items))), f"BadField({id})", 4
-    # of two that lack the smaller id is told, and one that lacks before a smaller one of another type
+
+
+def of_order(kind, schema):
+    """Of two that lack the smaller id is told, and one that lacks before a smaller one of another type."""
     first, second = (500, 501) if kind == "list" else (100, 101)
     text = json.dumps(schema).replace(f'"field-id": {second}}}', '"field-id": 9998}')
     yield "two_lack", bare(text.replace(f'"field-id": {first}}}', '"field-id": 9999}')), f"LacksField({first})", 4
@@ -141,13 +154,13 @@ def of_values(made, kind):
     yield "block_too_long", longer, "Container(BadSize)", longer.rindex(body)
     for id, name, value in [(id, name, -1) for id, name in NEGATIVE[kind]] + NUMBERS[kind]:
         spoilt = copy.deepcopy(first)
-        (spoilt if name in spoilt and id != 134 else spoilt["data_file"])[name] = value
+        (spoilt if name in spoilt else spoilt["data_file"])[name] = value
         second = bare(text, body + coder.encode(spoilt), 2)
         yield f"{name}_{id}_{'minus_1' if value < 0 else value}", second, f"BadField({id})", read_container(second)[1][1][0]
 
 
 def spelled_otherwise(text, body, at, places, kind):
-    """An object in which one number, text or list is none, at its first byte."""
+    """An object whose bytes spell no value at one field: a number, a text, a branch or a list."""
     a_text, an_int, may_lack = (500, 502, 519) if kind == "list" else (100, 0, 1)
 
     def spoilt(id, took, gave, skipped=0):

@@ -1,5 +1,6 @@
 #!/usr/bin/env python3
-"""Makes the manifests and manifest lists of tests/manifests, laid out as Apache Iceberg's Java writer lays them out.
+"""Makes the manifests and manifest lists of tests/manifests: some laid out as Apache Iceberg's Java writer lays them out, some
+with the liberties that the specification leaves.
 
     tests/manifest_files.py                 makes them
     tests/manifest_files.py --check         compares what stands with what would be made, and ends with 1 on a difference
@@ -224,12 +225,14 @@ def read_back():
 
 
 def main(words):
-    if words[:1] == ["--broken"]:
+    if words[:1] == ["--broken"] and len(words) == 2:
         folder = pathlib.Path(words[1])
         folder.mkdir(parents=True, exist_ok=True)
         for name, kind, data, _, _ in bad_files():
             (folder / f"{name}.{kind}.avro").write_bytes(data)
         return 0
+    if words not in ([], ["--check"]):
+        sys.exit(__doc__)
     files = made()
     FOLDER.mkdir(exist_ok=True)
     if words == ["--check"]:

@@ -158,7 +158,7 @@ def strange(within):
 
 
 def turned(fields):
-    """Every second optional field with null behind its type, and none with a default; fields in another order."""
+    """Fields in another order, none with a default, and some of the optional ones with null behind their type."""
     made = []
     for n, of in enumerate(fields[1:] + fields[:1]):
         of = {key: value for key, value in of.items() if key not in ("default", "doc")}
