@@ -9,7 +9,7 @@ use Rattle.manifest_columns.specs.Shapes.{fields_of}
 use Rattle.manifest_columns.specs.Slots.{known_fields}
 use Rattle.manifest_columns.specs.Tables.{row_columns}
 use Rattle.manifest_codec.specs.declared.container.Container.{Container as File}
-use Rattle.manifest_codec.specs.declared.objects.Place.{Place}
+use Rattle.manifest_codec.specs.declared.objects.Progress.{Progress}
 use Rattle.manifest_codec.specs.Schemas.{Head, Opens, head_at, file_at}
 use Rattle.manifest_codec.proofs.Steps.{from_start}
 use Rattle.avro_datum.specs.declared.datum.Datum.{Datum, out-Datum}
@@ -57,7 +57,7 @@ no_list (Ok (fs, objects)) (Err (errors.Bad at cause)) h = λ rows are. apart (r
 no_list (Err fault) (Err (errors.Bad at cause)) h = λ rows are. are
 
 -- at the end of the objects all rows are read
-pub all_read : (slots : List Slot) (file : File) (bytes : List ℕ) (old new : Place) (found : Option (ℕ × Datum)) (all : Objects) (rows : List ManifestRow) → GoesOn slots all rows (objects_from file bytes old)
+pub all_read : (slots : List Slot) (file : File) (bytes : List ℕ) (old new : Progress) (found : Option (ℕ × Datum)) (all : Objects) (rows : List ManifestRow) → GoesOn slots all rows (objects_from file bytes old)
     → Steps file bytes old new (Ok found) → found ≡ None → AreRows slots all rows
 all_read slots file bytes old new None all rows h s e =
     let P : List ManifestRow → Type 0 = AreRows slots all in
@@ -78,7 +78,7 @@ refused columns bytes (errors.Bad at cause) same h =
     subst P (sym (ap (λ cs. head_at cs bytes) (sym same) ∙ h)) refl
 
 -- a file that was opened
-pub given : (columns : List Column) (bytes : List ℕ) (file : File) (slots : List Slot) (place : Place) (result : Result (List ManifestRow) ManifestErr) → columns ≡ row_columns → Opens columns bytes (Ok file)
+pub given : (columns : List Column) (bytes : List ℕ) (file : File) (slots : List Slot) (place : Progress) (result : Result (List ManifestRow) ManifestErr) → columns ≡ row_columns → Opens columns bytes (Ok file)
     → slots ≡ row_slots (known_fields (fields_of (out-Schema file.schema)))
     → place ≡ record { from = file.header.end; to = file.header.end; at = 0; count = 0; next = file.header.end; blocks = length bytes - file.header.end }
     → GivesRows slots (objects_from file bytes place) result → GivesList (file_at row_columns bytes) result

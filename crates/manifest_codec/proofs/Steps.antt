@@ -13,7 +13,7 @@ use Rattle.avro_schema.specs.Form.{Form}
 use Rattle.manifest_codec.specs.declared.fault.ManifestCause.TheVariants.{Container, Value}
 use Rattle.manifest_codec.specs.Objects.{Objects, ended, stopped, object, in_block, in_blocks, with_block, with_object, objects_from, Reaches}
 use Rattle.manifest_codec.specs.declared.container.Container.{Container as File}
-use Rattle.manifest_codec.specs.declared.objects.Place.{Place}
+use Rattle.manifest_codec.specs.declared.objects.Progress.{Progress}
 
 pub slice_len : (bytes : List ℕ) (from to : ℕ) → to ≤ length bytes → length (slice_range bytes from to) ≡ to - from
 slice_len bytes from to h = length-between bytes from to h
@@ -92,6 +92,6 @@ pub body_len : (bytes : List ℕ) (from to at : ℕ) → to ≤ length bytes →
 body_len bytes from to at h = omega (arith, length-drop at (slice_range bytes from to), slice_len bytes from to h)
 
 -- an object begins where that was answered
-pub reached : (file : File) (bytes : List ℕ) (old new : Place) (b : Bool) → Reaches file bytes old new (Ok b) → b ≡ true → (objects_from file bytes old ≡ objects_from file bytes new) × (0 < new.count)
+pub reached : (file : File) (bytes : List ℕ) (old new : Progress) (b : Bool) → Reaches file bytes old new (Ok b) → b ≡ true → (objects_from file bytes old ≡ objects_from file bytes new) × (0 < new.count)
 reached file bytes old new true h e = h
 reached file bytes old new false h e = absurd cc

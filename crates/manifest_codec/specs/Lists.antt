@@ -55,6 +55,6 @@ GivesList (Err fault) (Err e) = Fails {A = List ManifestRow} e (Err fault)
 abbrev pub IsList : List ℕ → List ManifestRow → Type 0
 IsList bytes rows = GivesList (file_at row_columns bytes) (Ok rows)
 
--- They are one of no rows at all, not even of none.
+-- The bytes are no manifest list, whichever the rows.
 abbrev pub NoList : List ℕ → Type 0
 NoList bytes = (rows : List ManifestRow) → IsList bytes rows → ⊥

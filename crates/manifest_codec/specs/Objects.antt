@@ -13,7 +13,7 @@ use Rattle.manifest_codec.specs.declared.fault.ManifestCause.{ManifestCause}
 use Rattle.manifest_codec.specs.declared.fault.ManifestCause.TheVariants.{Container, Value}
 use Rattle.manifest_codec.specs.declared.fault.ManifestErr.{ManifestErr}
 use Rattle.manifest_codec.specs.declared.fault.ManifestErr.TheVariants as errors
-use Rattle.manifest_codec.specs.declared.objects.Place.{Place}
+use Rattle.manifest_codec.specs.declared.objects.Progress.{Progress}
 
 -- Objects, each with the place where it begins in the file, and how they end: with the file, or with a fault and its place.
 pub data Objects : Type 0 where
@@ -36,40 +36,40 @@ abbrev pub with_block : Form → ℕ → (List ℕ → Objects) → Read Contain
 with_block f n more (Ok ((count, body), rest)) = in_block f (n - length rest - 16 - length body) (n - length rest - 16) (more rest) count body
 with_block f n more (Err (cause, left)) = stopped (Container cause) (n - left)
 
--- The objects of at most so many blocks, in a file of n bytes.
+-- The objects of at most so many blocks, in a file of n bytes. Bytes behind the last of them would be a fault; with as many blocks as bytes there are none.
 unfoldable pub in_blocks : Form → List ℕ → ℕ → ℕ → List ℕ → Objects
 in_blocks f sync n zero bytes = if length bytes == 0 then ended else stopped (Container Short) n
 in_blocks f sync n (suc most) bytes = if length bytes == 0 then ended else with_block f n (in_blocks f sync n most) (container_block_at sync bytes)
 
 -- What is still to come from a place on.
-abbrev pub objects_from : File → List ℕ → Place → Objects
+abbrev pub objects_from : File → List ℕ → Progress → Objects
 objects_from file bytes p =
     in_block (form_of file.schema) p.from p.to (in_blocks (form_of file.schema) file.header.sync (length bytes) p.blocks (drop p.next bytes))
     p.count (drop p.at (slice_range bytes p.from p.to))
 
 -- The place lies within the bytes.
-pub record IsWithin (bytes : List ℕ) (p : Place) : Type 0 where
+pub record IsWithin (bytes : List ℕ) (p : Progress) : Type 0 where
   pub ordered : p.from ≤ p.to
   pub ended : p.to ≤ length bytes
   pub behind : p.next ≤ length bytes
   pub inside : p.at ≤ p.to - p.from
 
 -- The block behind a place's block was entered, or what is at its end was met.
-abbrev pub Enters : File → List ℕ → Place → Result (Option Place) ManifestErr → Type 0
+abbrev pub Enters : File → List ℕ → Progress → Result (Option Progress) ManifestErr → Type 0
 Enters file bytes p (Ok None) = objects_from file bytes p ≡ ended
 Enters file bytes p (Ok (Some q)) = (objects_from file bytes p ≡ objects_from file bytes q) × IsWithin bytes q × (suc q.blocks ≡ p.blocks)
 Enters file bytes p (Err errors.Memory) = Unit {0}
 Enters file bytes p (Err (errors.Bad at cause)) = objects_from file bytes p ≡ stopped cause at
 
 -- A place was reached at which an object begins, or what stands before it was met.
-abbrev pub Reaches : File → List ℕ → Place → Place → Result Bool ManifestErr → Type 0
+abbrev pub Reaches : File → List ℕ → Progress → Progress → Result Bool ManifestErr → Type 0
 Reaches file bytes old new (Ok true) = (objects_from file bytes old ≡ objects_from file bytes new) × (0 < new.count)
 Reaches file bytes old new (Ok false) = objects_from file bytes old ≡ ended
 Reaches file bytes old new (Err errors.Memory) = Unit {0}
 Reaches file bytes old new (Err (errors.Bad at cause)) = objects_from file bytes old ≡ stopped cause at
 
 -- The next object, the end or the fault is the first of what was still to come.
-abbrev pub Steps : File → List ℕ → Place → Place → Result (Option (ℕ × Datum)) ManifestErr → Type 0
+abbrev pub Steps : File → List ℕ → Progress → Progress → Result (Option (ℕ × Datum)) ManifestErr → Type 0
 Steps file bytes old new (Ok None) = objects_from file bytes old ≡ ended
 Steps file bytes old new (Ok (Some (at, d))) = objects_from file bytes old ≡ object at d (objects_from file bytes new)
 Steps file bytes old new (Err errors.Memory) = Unit {0}

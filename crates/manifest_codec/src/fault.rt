@@ -12,11 +12,12 @@ use std::alloc::{AllocError, AllocFailed};
 /// What is wrong with a file.
 #[derive(Clone, Copy, Debug, PartialEq, Eq)]
 pub enum ManifestCause {
-    /// The container is no container file, or a block's objects don't fill it: `BadSize`, at the first of them.
+    /// The file is no container file, or a block's objects don't fill it: `BadSize`, at the first of them.
     Container(ContainerCause),
     /// An object of a block isn't a value of the file's schema.
     Value(DatumCause),
-    /// The file's schema spells no Avro schema, or one that isn't a record; in place 4, as the next three.
+    /// The file's schema spells no Avro schema, or one that isn't a record; at place 4, as are `SchemaSize`,
+    /// `LacksField` and a `BadField` of the schema.
     BadSchema,
     /// The file's schema is over the limits of Avro schemas.
     SchemaSize,
@@ -26,7 +27,7 @@ pub enum ManifestCause {
     BadField(i32),
 }
 
-/// Why no manifest and no manifest list was read.
+/// Why a manifest or a manifest list wasn't read.
 #[derive(Debug, Drop)]
 pub enum ManifestErr {
     Memory,

@@ -16,7 +16,7 @@ ghost use Rattle.manifest_codec.specs.Lists.{GivesList, GivesRow, GivesRows, IsL
 
 use crate::container::Container;
 use crate::fault::{ManifestCause, ManifestErr};
-use crate::objects::{Place, first_place, next_object};
+use crate::objects::{Progress, first_place, next_object};
 use crate::schemas::open;
 use avro_datum::Datum;
 use manifest_cells::{FieldErr, fields_in};
@@ -56,7 +56,7 @@ fn rows_from(
     file: &Container,
     slots: &[Slot],
     bytes: &[u8],
-    mut place: Place,
+    mut place: Progress,
 ) -> Result<RowList, ManifestErr>
     requires width { length slots.now ≡ 15 }
     requires within { IsWithin bytes.now place }

@@ -11,7 +11,7 @@ use std::alloc::Global;
 
 /// How far reading has come.
 #[derive(Clone, Copy)]
-pub(crate) struct Place {
+pub(crate) struct Progress {
     /// Where the objects of the block begin in the file.
     pub(crate) from: usize,
     /// Where they end.
@@ -22,17 +22,17 @@ pub(crate) struct Place {
     pub(crate) count: u64,
     /// Where the next block begins.
     pub(crate) next: usize,
-    /// How many blocks may follow at most: a block has more than one byte, so no file has as many.
+    /// How many blocks may follow at most. It begins as the number of bytes behind the header; no file has as many blocks.
     pub(crate) blocks: usize,
 }
 
 /// The place behind the header, which ends at `end`.
-pub(crate) fn first_place(bytes: &[u8], end: usize) -> Place
+pub(crate) fn first_place(bytes: &[u8], end: usize) -> Progress
     requires { end ≤ length bytes.now }
     ensures within { IsWithin bytes.now result }
     ensures is { result ≡ record { from = end; to = end; at = 0; count = 0; next = end; blocks = length bytes.now - end } }
 {
-    Place {
+    Progress {
         from: end,
         to: end,
         at: 0,
@@ -52,10 +52,10 @@ fn container_fault(at: usize, cause: ContainerCause) -> ManifestErr
 }
 
 // The first place of a block, behind which at most so many follow.
-fn place_in(block: &Block, blocks: usize) -> Place
+fn place_in(block: &Block, blocks: usize) -> Progress
     ensures { result ≡ record { from = block.now.from; to = block.now.to; at = 0; count = block.now.count; next = block.now.next; blocks = blocks } }
 {
-    Place {
+    Progress {
         from: block.from,
         to: block.to,
         at: 0,
@@ -66,7 +66,11 @@ fn place_in(block: &Block, blocks: usize) -> Place
 }
 
 // The first place of the next block, from the end of this one's objects. None at the end of the file.
-fn entered(file: &Container, bytes: &[u8], place: &Place) -> Result<Option<Place>, ManifestErr>
+fn entered(
+    file: &Container,
+    bytes: &[u8],
+    place: &Progress,
+) -> Result<Option<Progress>, ManifestErr>
     requires within { IsWithin bytes.now place.now }
     requires over { place.now.count ≡ 0 }
     ensures { Enters file.now bytes.now place.now result }
@@ -87,7 +91,7 @@ fn entered(file: &Container, bytes: &[u8], place: &Place) -> Result<Option<Place
 }
 
 // Goes on to the next object, over the ends of blocks. False at the end of the file.
-fn reach(file: &Container, bytes: &[u8], place: &mut Place) -> Result<bool, ManifestErr>
+fn reach(file: &Container, bytes: &[u8], place: &mut Progress) -> Result<bool, ManifestErr>
     requires { IsWithin bytes.now place.old }
     ensures reaches { Reaches file.now bytes.now place.old place.new result }
     ensures within { IsWithin bytes.now place.new }
@@ -106,7 +110,7 @@ pub(crate) fn next_object(
     alloc: Global,
     file: &Container,
     bytes: &[u8],
-    place: &mut Place,
+    place: &mut Progress,
 ) -> Result<Option<(usize, Datum)>, ManifestErr>
     requires { IsWithin bytes.now place.old }
     ensures steps { Steps file.now bytes.now place.old place.new result }

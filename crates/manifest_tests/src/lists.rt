@@ -4,8 +4,8 @@ use manifest_codec::{ManifestCause, ManifestErr, lists_are_spelled, read_list};
 use std::process::Abort;
 use std::test::Fail;
 
-/// A list of two equal rows of deletes: /m, 7 bytes, spec 1, sequences 4 and 3, snapshot 9. The bytes are those of a writer
-/// of its own, in Python.
+/// A list of two equal rows of deletes: /m, 7 bytes, spec 1, sequences 4 and 3, snapshot 9. The bytes were written by
+/// a Python program, after the Avro specification.
 const TWO_ROWS: &[u8] =
     b"Obj\x01\x04\x14avro.codec\x08null\x16avro.schema\xc6\x14{\"fields\":[{\"field-id\":500,\"name\":\"manifest_pat\
     h\",\"type\":\"string\"},{\"field-id\":501,\"name\":\"manifest_length\",\"type\":\"long\"},{\"field-id\":502,\
