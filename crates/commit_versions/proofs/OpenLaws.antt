@@ -272,14 +272,14 @@ module _ (rules : Rules) (ruled : IsNumbering rules.reading.number) (localized :
 
   pub opened : (base : Parts) (text : List ℕ) (old mid new : Past) → IsBase rules base old mid → IsText rules base text mid new → IsOpened rules base text old new
   opened base text old mid new b t = record {
-    listed = record { positive = b.positive; below = b.below; listed = mid; listing = forget (KO base) old mid b.run; last = b.last; named = b.named; run = idle_then (KO base) (KO base) old mid new b.run t.run };
+    listed = record { positive = b.positive; below = b.below; listed = mid; listing = forget (KO base) old mid b.run; behind = forget (KO base) mid new t.run; last = b.last; named = b.named; run = idle_then (KO base) (KO base) old mid new b.run t.run };
     file = t.file;
     short = t.short;
     sealed = λ steady. let s = b.sealed steady in t.sealed s.0 s.1;
   }
 
   pub listed_then : (base : Parts) (K : Past → Type 0) (old mid new : Past) → IsBase rules base old mid → RR (Exactly []) K mid new → WasListed rules base K old new
-  listed_then base K old mid new b run = record { positive = b.positive; below = b.below; listed = mid; listing = forget (KO base) old mid b.run; last = b.last; named = b.named; run = idle_then (KO base) K old mid new b.run run }
+  listed_then base K old mid new b run = record { positive = b.positive; below = b.below; listed = mid; listing = forget (KO base) old mid b.run; behind = forget K mid new run; last = b.last; named = b.named; run = idle_then (KO base) K old mid new b.run run }
 
   pub idle_after : (base : Parts) (old mid new : Past) → IsBase rules base old mid → RR (Exactly []) Anything mid new → RR (Exactly []) Anything old new
   idle_after base old mid new b run = idle_then (KO base) Anything old mid new b.run run

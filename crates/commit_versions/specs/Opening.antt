@@ -118,12 +118,13 @@ module _ (rules : Rules) where
   ReadLeaves base (Ok Absent) = Idle (InState (λ d. is_named d.files base ≡ false))
   ReadLeaves base (Err e) = Idle Anything
 
-  -- the last version was listed, its number within the limit, and then something held of its place
+  -- the last version was listed, between the entry and the exit, its number within the limit, and then something held of its place
   pub record Listed (base : Parts) (K : Past → Type 0) (old now : Past) : Type 0 where
     pub positive : 0 < number base
     pub below : number base < version_limit
     pub listed : Past
     pub listing : Idle Anything old listed
+    pub behind : Idle Anything listed now
     pub last : version number (replay listed).files ≡ number base
     pub named : is_named (replay listed).files base ≡ true
     pub run : Idle K old now
