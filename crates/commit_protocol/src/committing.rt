@@ -227,7 +227,7 @@ fn settle_left(log: &mut Log, count: usize, ended: &Result<Committed, CommitErr>
     }
 }
 
-fn attempt_once<M: Manners, S: Store<M>, I: Ids, X: Change<M>>(
+fn ask_and_publish<M: Manners, S: Store<M>, I: Ids, X: Change<M>>(
     alloc: Global,
     store: &mut S,
     ids: &mut I,
@@ -300,7 +300,7 @@ fn lost_answer(version: u64, removed: Result<(), RemoveErr>) -> Result<Committed
     })
 }
 
-fn attempt_on<M: Manners, S: Store<M>, I: Ids, X: Change<M>>(
+fn attempt_on_base<M: Manners, S: Store<M>, I: Ids, X: Change<M>>(
     alloc: Global,
     store: &mut S,
     ids: &mut I,
@@ -328,7 +328,7 @@ fn attempt_on<M: Manners, S: Store<M>, I: Ids, X: Change<M>>(
     ensures fault_place { TellsFault (X.meanings change.old change.new) (GivesLast (X.meanings change.old change.new).draws (I.given ids.old) (I.given ids.new)) table.now result }
     ensures unopened { (e : TheOpenErr) → result ≡ Err (CommitErr.Open e) → ⊥ }
 {
-    let ended = attempt_once::<M, S, I, X>(alloc, store, ids, now, table, at, change, log);
+    let ended = ask_and_publish::<M, S, I, X>(alloc, store, ids, now, table, at, change, log);
     match lost_version(&ended) {
         None => ended,
         Some(version) => lost_answer(version, change.lost::<S>(store, table, log)),
@@ -338,8 +338,8 @@ fn attempt_on<M: Manners, S: Store<M>, I: Ids, X: Change<M>>(
 /// Commits a change: opens the table, asks the change, writes what it built under a name of its own, seals it, syncs the
 /// names, renames it to the next version and syncs again. Nothing is published where there is nothing to change. Behind the
 /// identifiers that the change draws for itself one more is drawn, which names the new metadata file. `Contended` comes
-/// where the next version was taken: the new metadata file is then removed. After a store failure no further store call is
-/// made.
+/// where the next version was taken: the new metadata file is then removed, and so are the files that the change made, by
+/// its `lost`, with a sync of the names behind them. After a store failure no further store call is made.
 ///
 /// `told` says by the end which steps were taken: first those of the change's attempt, as its meanings have them, and then
 /// those of one publish of what it built; and which places the log's `left` has: the change's files, until a version names
@@ -377,7 +377,7 @@ pub fn commit<M: Manners, S: Store<M>, I: Ids, X: Change<M>>(
     ensures successors { IsNobody (M.allows (S.manners store.old)) → Since (S.past store.old) (S.past store.new) (Succeeds (X.meanings change.old change.new).successor table.now now result) }
 {
     match open_table::<M, S>(alloc, store, table) {
-        Ok(at) => attempt_on::<M, S, I, X>(alloc, store, ids, now, table, at, change, log),
+        Ok(at) => attempt_on_base::<M, S, I, X>(alloc, store, ids, now, table, at, change, log),
         Err(e) => Err(CommitErr::Open(e)),
     }
 }

@@ -28,20 +28,20 @@ returns-in-Ok-clause-told g c =
     let t = c.args.table.now in
     let allows = g.M.Manners.allows (g.S.Store.manners c.args.store.now) in
     let p0 = g.S.Store.past c.args.store.now in
-    let p2 = g.S.Store.past c.attempt_on.new.store in
-    let meanings = g.X.Change.meanings c.args.change.now c.attempt_on.new.change in
+    let p2 = g.S.Store.past c.attempt_on_base.new.store in
+    let meanings = g.X.Change.meanings c.args.change.now c.attempt_on_base.new.change in
     let given = g.I.Ids.given c.args.ids.now in
-    let last = g.I.Ids.given c.attempt_on.new.ids in
-    let r = c.attempt_on.result in
-    let mark = g.S.Store.halted c.attempt_on.new.store in
+    let last = g.I.Ids.given c.attempt_on_base.new.ids in
+    let r = c.attempt_on_base.result in
+    let mark = g.S.Store.halted c.attempt_on_base.new.store in
     let had = c.args.log.now.left.items in
-    let has = c.attempt_on.new.log.left.items in
+    let has = c.attempt_on_base.new.log.left.items in
     let at = c.in-Ok.at in
     let p1 = g.S.Store.past c.open_table.new.store in
-    let then = subst (λ m. Since p1 p2 (RoundTells t (g.M.Manners.allows m) meanings given last c.args.now at r mark had has)) c.in-Ok.ensures.manners c.attempt_on.ensures.told in
+    let then = subst (λ m. Since p1 p2 (RoundTells t (g.M.Manners.allows m) meanings given last c.args.now at r mark had has)) c.in-Ok.ensures.manners c.attempt_on_base.ensures.told in
     since_then p0 p1 p2 (IsAt t allows at) (RoundTells t allows meanings given last c.args.now at r mark had has) (CommitTells t allows meanings given last c.args.now r mark had has)
     c.in-Ok.ensures.told then
-    (λ old mid new opened a. rounds.tells_by t allows meanings given last c.args.now at r mark had has old mid new c.attempt_on.ensures.unopened opened a)
+    (λ old mid new opened a. rounds.tells_by t allows meanings given last c.args.now at r mark had has old mid new c.attempt_on_base.ensures.unopened opened a)
 
 pub returns-in-Err-clause-told : goal.returns-in-Err-clause-told
 returns-in-Err-clause-told g c =
@@ -65,14 +65,14 @@ returns-in-Ok-clause-alone g c nobody =
     let t = c.args.table.now in
     let allows = g.M.Manners.allows (g.S.Store.manners c.args.store.now) in
     let p0 = g.S.Store.past c.args.store.now in
-    let p2 = g.S.Store.past c.attempt_on.new.store in
-    let meanings = g.X.Change.meanings c.args.change.now c.attempt_on.new.change in
+    let p2 = g.S.Store.past c.attempt_on_base.new.store in
+    let meanings = g.X.Change.meanings c.args.change.now c.attempt_on_base.new.change in
     let given = g.I.Ids.given c.args.ids.now in
-    let last = g.I.Ids.given c.attempt_on.new.ids in
-    let r = c.attempt_on.result in
-    let mark = g.S.Store.halted c.attempt_on.new.store in
+    let last = g.I.Ids.given c.attempt_on_base.new.ids in
+    let r = c.attempt_on_base.result in
+    let mark = g.S.Store.halted c.attempt_on_base.new.store in
     let had = c.args.log.now.left.items in
-    let has = c.attempt_on.new.log.left.items in
+    let has = c.attempt_on_base.new.log.left.items in
     since_turned p0 p2 (CommitTells t allows meanings given last c.args.now r mark had has) (IsCausedOf meanings given last t c.args.now r) (returns-in-Ok-clause-told g c)
     (λ old new h. commit_ends t allows nobody meanings given last c.args.now r mark had has old new h)
 
@@ -81,14 +81,14 @@ returns-in-Ok-clause-exactly g c =
     let t = c.args.table.now in
     let allows = g.M.Manners.allows (g.S.Store.manners c.args.store.now) in
     let p0 = g.S.Store.past c.args.store.now in
-    let p2 = g.S.Store.past c.attempt_on.new.store in
-    let meanings = g.X.Change.meanings c.args.change.now c.attempt_on.new.change in
+    let p2 = g.S.Store.past c.attempt_on_base.new.store in
+    let meanings = g.X.Change.meanings c.args.change.now c.attempt_on_base.new.change in
     let given = g.I.Ids.given c.args.ids.now in
-    let last = g.I.Ids.given c.attempt_on.new.ids in
-    let r = c.attempt_on.result in
-    let mark = g.S.Store.halted c.attempt_on.new.store in
+    let last = g.I.Ids.given c.attempt_on_base.new.ids in
+    let r = c.attempt_on_base.result in
+    let mark = g.S.Store.halted c.attempt_on_base.new.store in
     let had = c.args.log.now.left.items in
-    let has = c.attempt_on.new.log.left.items in
+    let has = c.attempt_on_base.new.log.left.items in
     since_turned p0 p2 (CommitTells t allows meanings given last c.args.now r mark had has) (IsExactlyOf allows meanings given last t c.args.now r) (returns-in-Ok-clause-told g c)
     (λ old new h. exactly t allows meanings given last c.args.now r mark had has old new h)
 
@@ -111,14 +111,14 @@ returns-in-Ok-clause-prefix g c =
     let t = c.args.table.now in
     let allows = g.M.Manners.allows (g.S.Store.manners c.args.store.now) in
     let p0 = g.S.Store.past c.args.store.now in
-    let p2 = g.S.Store.past c.attempt_on.new.store in
-    let meanings = g.X.Change.meanings c.args.change.now c.attempt_on.new.change in
+    let p2 = g.S.Store.past c.attempt_on_base.new.store in
+    let meanings = g.X.Change.meanings c.args.change.now c.attempt_on_base.new.change in
     let given = g.I.Ids.given c.args.ids.now in
-    let last = g.I.Ids.given c.attempt_on.new.ids in
-    let r = c.attempt_on.result in
-    let mark = g.S.Store.halted c.attempt_on.new.store in
+    let last = g.I.Ids.given c.attempt_on_base.new.ids in
+    let r = c.attempt_on_base.result in
+    let mark = g.S.Store.halted c.attempt_on_base.new.store in
     let had = c.args.log.now.left.items in
-    let has = c.attempt_on.new.log.left.items in
+    let has = c.attempt_on_base.new.log.left.items in
     stops_have_prefix t allows meanings given last c.args.now r mark had has p0 p2 (returns-in-Ok-clause-told g c)
 
 pub returns-in-Err-clause-prefix : goal.returns-in-Err-clause-prefix
@@ -139,14 +139,14 @@ returns-in-Ok-clause-files g c =
     let t = c.args.table.now in
     let allows = g.M.Manners.allows (g.S.Store.manners c.args.store.now) in
     let p0 = g.S.Store.past c.args.store.now in
-    let p2 = g.S.Store.past c.attempt_on.new.store in
-    let meanings = g.X.Change.meanings c.args.change.now c.attempt_on.new.change in
+    let p2 = g.S.Store.past c.attempt_on_base.new.store in
+    let meanings = g.X.Change.meanings c.args.change.now c.attempt_on_base.new.change in
     let given = g.I.Ids.given c.args.ids.now in
-    let last = g.I.Ids.given c.attempt_on.new.ids in
-    let r = c.attempt_on.result in
-    let mark = g.S.Store.halted c.attempt_on.new.store in
+    let last = g.I.Ids.given c.attempt_on_base.new.ids in
+    let r = c.attempt_on_base.result in
+    let mark = g.S.Store.halted c.attempt_on_base.new.store in
     let had = c.args.log.now.left.items in
-    let has = c.attempt_on.new.log.left.items in
+    let has = c.attempt_on_base.new.log.left.items in
     stops_have_files t allows meanings given last c.args.now r mark had has p0 p2 (returns-in-Ok-clause-told g c)
 
 pub returns-in-Err-clause-files : goal.returns-in-Err-clause-files
@@ -167,14 +167,14 @@ returns-in-Ok-clause-successors g c nobody =
     let t = c.args.table.now in
     let allows = g.M.Manners.allows (g.S.Store.manners c.args.store.now) in
     let p0 = g.S.Store.past c.args.store.now in
-    let p2 = g.S.Store.past c.attempt_on.new.store in
-    let meanings = g.X.Change.meanings c.args.change.now c.attempt_on.new.change in
+    let p2 = g.S.Store.past c.attempt_on_base.new.store in
+    let meanings = g.X.Change.meanings c.args.change.now c.attempt_on_base.new.change in
     let given = g.I.Ids.given c.args.ids.now in
-    let last = g.I.Ids.given c.attempt_on.new.ids in
-    let r = c.attempt_on.result in
-    let mark = g.S.Store.halted c.attempt_on.new.store in
+    let last = g.I.Ids.given c.attempt_on_base.new.ids in
+    let r = c.attempt_on_base.result in
+    let mark = g.S.Store.halted c.attempt_on_base.new.store in
     let had = c.args.log.now.left.items in
-    let has = c.attempt_on.new.log.left.items in
+    let has = c.attempt_on_base.new.log.left.items in
     each_succeeds t allows meanings given last c.args.now r mark had has p0 p2 nobody (returns-in-Ok-clause-told g c)
 
 pub returns-in-Err-clause-successors : goal.returns-in-Err-clause-successors
@@ -197,10 +197,10 @@ returns-in-Err-clause-opening g c e is =
     subst (OpenFaultAt c.args.table.now) same c.in-Err.ensures.place
 
 pub returns-in-Ok-clause-opening : goal.returns-in-Ok-clause-opening
-returns-in-Ok-clause-opening g c e is = absurd (c.attempt_on.ensures.unopened e is)
+returns-in-Ok-clause-opening g c e is = absurd (c.attempt_on_base.ensures.unopened e is)
 
-pub attempt_on-requires-clause-read : goal.attempt_on-requires-clause-read
-attempt_on-requires-clause-read g c =
+pub attempt_on_base-requires-clause-read : goal.attempt_on_base-requires-clause-read
+attempt_on_base-requires-clause-read g c =
     let t = c.args.table.now in
     let allows = g.M.Manners.allows (g.S.Store.manners c.args.store.now) in
     let at = c.in-Ok.at in
@@ -208,12 +208,12 @@ attempt_on-requires-clause-read g c =
 
 pub returns-in-Ok-clause-cause : goal.returns-in-Ok-clause-cause
 returns-in-Ok-clause-cause g c =
-    ends.counts_from (kind_of (commit_end c.attempt_on.result)) (g.S.Store.faults c.args.store.now) (g.S.Store.faults c.open_table.new.store) (g.S.Store.faults c.attempt_on.new.store) c.in-Ok.ensures.cause c.attempt_on.ensures.cause
+    ends.counts_from (kind_of (commit_end c.attempt_on_base.result)) (g.S.Store.faults c.args.store.now) (g.S.Store.faults c.open_table.new.store) (g.S.Store.faults c.attempt_on_base.new.store) c.in-Ok.ensures.cause c.attempt_on_base.ensures.cause
 
 pub returns-in-Ok-clause-halted : goal.returns-in-Ok-clause-halted
 returns-in-Ok-clause-halted g c =
-    ends.marks_from c.args.table.now (kind_of (commit_end c.attempt_on.result)) (g.S.Store.halted c.args.store.now) (g.S.Store.halted c.open_table.new.store) (g.S.Store.halted c.attempt_on.new.store) (g.S.Store.past c.attempt_on.new.store)
-    c.in-Ok.ensures.halted c.attempt_on.ensures.halted
+    ends.marks_from c.args.table.now (kind_of (commit_end c.attempt_on_base.result)) (g.S.Store.halted c.args.store.now) (g.S.Store.halted c.open_table.new.store) (g.S.Store.halted c.attempt_on_base.new.store) (g.S.Store.past c.attempt_on_base.new.store)
+    c.in-Ok.ensures.halted c.attempt_on_base.ensures.halted
 
 pub returns-in-Err-clause-halted : goal.returns-in-Err-clause-halted
 returns-in-Err-clause-halted g c =

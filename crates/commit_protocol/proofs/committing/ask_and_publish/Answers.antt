@@ -32,7 +32,7 @@ use Rattle.commit_protocol.specs.declared.errors.Committed.TheVariants.{Same}
 use Rattle.commit_protocol.proofs.CommitLaws as laws
 use Rattle.commit_protocol.proofs.EndLaws as ends
 use Rattle.commit_protocol.proofs.RoundLaws as rounds
-use Rattle.commit_protocol.proofs.committing.attempt_once.Goals as goal
+use Rattle.commit_protocol.proofs.committing.ask_and_publish.Goals as goal
 
 pub returns-then-not-has_version_limit-clause-told : goal.returns-then-not-has_version_limit-clause-told
 returns-then-not-has_version_limit-clause-told g c =
