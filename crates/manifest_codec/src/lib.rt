@@ -5,8 +5,10 @@
 mod container;
 mod fault;
 mod lists;
+mod manifest;
 mod objects;
 mod schemas;
 
 pub use fault::{ManifestCause, ManifestErr};
 pub use lists::{RowList, lists_are_spelled, read_list};
+pub use manifest::{EntryList, Manifest};
