@@ -7,7 +7,6 @@ use Rattle.avro_datum.specs.declared.datum.Datum.{Datum}
 use Rattle.schema_types.specs.declared.types.PartField.{PartField}
 use Rattle.manifest_entries.specs.declared.entry.Entry.{Entry}
 use Rattle.manifest_entries.specs.declared.entry.EntrySlots.{EntrySlots}
-use Rattle.manifest_codec.specs.declared.fault.ManifestCause.{ManifestCause}
 use Rattle.manifest_codec.specs.declared.fault.ManifestErr.{ManifestErr}
 use Rattle.manifest_codec.specs.declared.fault.ManifestErr.TheVariants as errors
 use Rattle.manifest_codec.specs.declared.manifest.Manifest.{Manifest}

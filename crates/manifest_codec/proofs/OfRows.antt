@@ -12,7 +12,6 @@ use Rattle.manifest_columns.specs.Tables.{row_columns}
 use Rattle.manifest_columns.specs.declared.slots.Slot.{Slot}
 use Rattle.manifest_rows.specs.declared.row.ManifestRow.{ManifestRow}
 use Rattle.manifest_rows.specs.Rows.{row_slots}
-use Rattle.manifest_codec.specs.declared.fault.ManifestCause.{ManifestCause}
 use Rattle.manifest_codec.specs.declared.fault.ManifestErr.{ManifestErr}
 use Rattle.manifest_codec.specs.declared.fault.ManifestErr.TheVariants as errors
 use Rattle.manifest_codec.specs.declared.container.Container.{Container as File}

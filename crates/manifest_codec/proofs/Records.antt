@@ -1,10 +1,10 @@
 -- Records of objects, one after the other.
-use Rattle.std.proofs.Common.{◌≡◌, ℕ, ℤ, ◌-◌, length, drop, Option, Some, None, List, [], ◌∷◌, ◌++◌, Result, Ok, Err, refl, sym, ap, ◌∙◌, subst, append_assoc, inl, inr, ◌⊎◌}
+use Rattle.std.proofs.Common.{◌≡◌, ℕ, ℤ, ◌-◌, length, drop, Option, Some, None, List, [], ◌∷◌, ◌++◌, Result, Ok, Err, sym, ap, ◌∙◌, subst, append_assoc, inl, inr}
 use Rattle.std.proofs.lemmas.List.{append-nil}
 use Rattle.avro_container.specs.Container.{Pair}
 use Rattle.avro_schema.specs.Form.{form_of}
 use Rattle.avro_schema.specs.declared.schema.Field.{Field}
-use Rattle.avro_schema.specs.declared.schema.Schema.{Schema, out-Schema}
+use Rattle.avro_schema.specs.declared.schema.Schema.{out-Schema}
 use Rattle.avro_datum.specs.declared.datum.Datum.{Datum}
 use Rattle.manifest_columns.specs.Shapes.{fields_of}
 use Rattle.manifest_codec.specs.declared.container.Container.{Container as File}

@@ -1,10 +1,10 @@
 -- What is read as a manifest list, or as a manifest, is spelled as one.
-use Rattle.std.proofs.Common.{◌≡◌, ℕ, zero, suc, ◌-◌, List, [], ◌∷◌, ◌++◌, length, Result, Ok, Err, Option, Bool, true, false, ◌==◌, cond, refl, sym, ap, ◌∙◌, subst, arith, eqb-true}
+use Rattle.std.proofs.Common.{◌≡◌, ℕ, zero, suc, ◌-◌, List, [], ◌∷◌, ◌++◌, length, Result, Ok, Err, Option, Bool, true, false, ◌==◌, cond, refl, sym, ap, subst, arith, eqb-true}
 use Rattle.std.specs.List.{flat_map}
 use Rattle.serde_json.specs.Read.{read as read_text}
 use Rattle.avro_container.specs.declared.fault.ContainerCause.{ContainerCause}
 use Rattle.avro_container.specs.declared.fault.ContainerCause.TheVariants.{Short}
-use Rattle.avro_container.specs.Reading.{Read, Fault as Left}
+use Rattle.avro_container.specs.Reading.{Read}
 use Rattle.avro_container.specs.Container.{SpellsBlock, SpellsHeader, Pair}
 use Rattle.avro_container.specs.ContainerReading.{container_block_at, header_at, Said}
 use Rattle.avro_container.specs.Spelling.{SpellsEach}
@@ -25,17 +25,15 @@ use Rattle.manifest_entries.specs.declared.entry.Entry.{Entry}
 use Rattle.manifest_entries.specs.Entries.{IsEntry}
 use Rattle.manifest_rows.specs.declared.row.ManifestRow.{ManifestRow}
 use Rattle.manifest_rows.specs.Rows.{IsRow, row_slots}
-use Rattle.schema_types.specs.declared.types.PartField.{PartField}
 use Rattle.manifest_codec.specs.declared.fault.ManifestCause.{ManifestCause}
 use Rattle.manifest_codec.specs.declared.fault.ManifestCause.TheVariants.{Container, Value}
-use Rattle.manifest_codec.specs.declared.manifest.Manifest.{Manifest}
 use Rattle.manifest_codec.specs.Faults.{Fault, ◌>>=◌, placed, at_schema}
-use Rattle.manifest_codec.specs.Objects.{Objects, ended, stopped, object, with_object, in_block, with_block, in_blocks}
+use Rattle.manifest_codec.specs.Objects.{Objects, ended, stopped, with_object, in_block, with_block, in_blocks}
 use Rattle.manifest_codec.specs.Records.{AreEach}
 use Rattle.manifest_codec.specs.Schemas.{Head, text_schema, checked, head_at, file_at}
-use Rattle.manifest_codec.specs.Lists.{IsRowAt, GivesList, IsList}
-use Rattle.manifest_codec.specs.Manifests.{IsEntryAt, GivesManifest, IsManifest, checked_entry, manifest_slots}
-use Rattle.manifest_codec.specs.Spelling.{SpellsObjects, StandEach, SpellsList, ListsAreSpelled, SpellsManifest, ManifestsAreSpelled}
+use Rattle.manifest_codec.specs.Lists.{IsRowAt, GivesList}
+use Rattle.manifest_codec.specs.Manifests.{IsEntryAt, GivesManifest, checked_entry, manifest_slots}
+use Rattle.manifest_codec.specs.Spelling.{SpellsObjects, StandEach, ListsAreSpelled, ManifestsAreSpelled}
 
 -- the values of a block, what they stand for, and what is behind them
 record Inside {A : Type 0} (Is : ℕ → Datum → A → Type 0) (Of : Datum → A → Type 0) (f : Form) (count : ℕ) (bytes : List ℕ) (next : Objects) (xs : List A) : Type 0 where

@@ -1,5 +1,5 @@
 -- What is spelled as a manifest list, or as a manifest, is read.
-use Rattle.std.proofs.Common.{◌≡◌, ◌≤◌, ℕ, zero, suc, ◌-◌, ◌+◌, List, [], ◌∷◌, ◌++◌, length, Result, Ok, Err, Option, refl, sym, ap, ◌∙◌, subst, arith, length-append}
+use Rattle.std.proofs.Common.{◌≡◌, ◌≤◌, ℕ, suc, ◌-◌, ◌+◌, List, [], ◌∷◌, ◌++◌, length, Result, Ok, Option, refl, sym, ap, ◌∙◌, subst, arith, length-append}
 use Rattle.std.specs.List.{flat_map}
 use Rattle.serde_json.specs.Read.{read as read_text}
 use Rattle.avro_container.specs.declared.fault.ContainerCause.{ContainerCause}
@@ -26,12 +26,10 @@ use Rattle.manifest_entries.specs.declared.entry.EntrySlots.{EntrySlots}
 use Rattle.manifest_entries.specs.Entries.{IsEntry}
 use Rattle.manifest_rows.specs.declared.row.ManifestRow.{ManifestRow}
 use Rattle.manifest_rows.specs.Rows.{IsRow, cells, row_slots}
-use Rattle.schema_types.specs.declared.types.PartField.{PartField}
 use Rattle.manifest_codec.specs.declared.fault.ManifestCause.{ManifestCause}
-use Rattle.manifest_codec.specs.declared.manifest.Manifest.{Manifest}
 use Rattle.manifest_codec.specs.Faults.{Fault, ◌>>=◌, placed, at_schema}
 use Rattle.manifest_codec.specs.Keys.{HasKeys}
-use Rattle.manifest_codec.specs.Objects.{Objects, ended, with_object, in_block, with_block, in_blocks}
+use Rattle.manifest_codec.specs.Objects.{Objects, with_object, in_block, with_block, in_blocks}
 use Rattle.manifest_codec.specs.Records.{AreEach}
 use Rattle.manifest_codec.specs.Schemas.{Head, text_schema, checked, head_at, file_at}
 use Rattle.manifest_codec.specs.Lists.{IsRowAt, GivesList}

@@ -1,4 +1,3 @@
-use Rattle.std.proofs.Common.{◌≡◌}
 use Rattle.manifest_codec.proofs.Texts.{is_text, no_text}
 use Rattle.manifest_codec.proofs.keys.as_text.Goals as goal
 

@@ -1,4 +1,3 @@
-use Rattle.std.proofs.Common.{◌≡◌}
 use Rattle.manifest_codec.proofs.Numbers.{parsed_ok, parsed_err}
 use Rattle.manifest_codec.proofs.keys.parsed.Goals as goal
 

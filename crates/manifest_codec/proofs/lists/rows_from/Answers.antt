@@ -1,4 +1,3 @@
-use Rattle.std.proofs.Common.{◌≡◌}
 use Rattle.manifest_codec.specs.Lists.{IsRowAt, IsBadRow}
 use Rattle.manifest_codec.proofs.Records.{all_read}
 use Rattle.manifest_codec.proofs.lists.rows_from.Goals as goal

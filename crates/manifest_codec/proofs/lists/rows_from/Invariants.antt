@@ -1,4 +1,3 @@
-use Rattle.std.proofs.Common.{◌≡◌}
 use Rattle.manifest_codec.specs.Lists.{IsRowAt, IsBadRow}
 use Rattle.manifest_codec.specs.Objects.{IsWithin, count_of, objects_from}
 use Rattle.manifest_codec.proofs.Records.{GoesOn}

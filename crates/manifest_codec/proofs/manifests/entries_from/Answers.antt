@@ -1,4 +1,3 @@
-use Rattle.std.proofs.Common.{◌≡◌}
 use Rattle.manifest_codec.specs.Manifests.{IsEntryAt, IsBadEntry}
 use Rattle.manifest_codec.proofs.Records.{all_read}
 use Rattle.manifest_codec.proofs.manifests.entries_from.Goals as goal

@@ -1,4 +1,3 @@
-use Rattle.std.proofs.Common.{◌≡◌}
 use Rattle.std.proofs.lemmas.Result.{err_from_is_err_and}
 use Rattle.manifest_codec.specs.Manifests.{checked_entry}
 use Rattle.manifest_codec.specs.Schemas.{file_at}
