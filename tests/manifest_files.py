@@ -6,6 +6,8 @@ with the liberties that the specification leaves.
     tests/manifest_files.py --check         compares what stands with what would be made, and ends with 1 on a difference
     tests/manifest_files.py --broken FOLDER writes the bad files that tests/manifests/broken.json lists into a folder
 
+The manifests stand once more as constants in crates/manifest_tests/src/made.rt, since the tests read no files; it is made and
+compared with the files.
 Fields, ids and their order are those of the Apache Iceberg table specification ("Manifests", "Manifest Lists", "Appendix A:
 Avro"); the bytes come from avro_bytes.py. Beside each file stands a JSON text with its keys, its ids and the values that were
 put in, where bytes are `{"hex": ..}` and `at` is the offset in the file. Where Avro's own Python library is installed, it reads
@@ -14,6 +16,7 @@ each file and finds the same values.
 import hashlib
 import json
 import pathlib
+import struct
 import sys
 import warnings
 
@@ -24,6 +27,7 @@ from manifest_faults import broken  # noqa: E402
 from manifest_schemas import PARTS, entry_schema, list_schema, mixed, spec_fields, table_schema  # noqa: E402
 
 FOLDER = pathlib.Path(__file__).resolve().parent / "manifests"
+CONSTANTS = FOLDER.parents[1] / "crates/manifest_tests/src/made.rt"
 
 
 def compact(tree):
@@ -207,6 +211,62 @@ def made():
     return found
 
 
+def literal(data):
+    """The bytes as lines of a literal, each of at most 115 characters."""
+    lines, line = [], ""
+    for byte in data:
+        plain = 32 < byte < 127 or (byte == 32 and line)
+        char = "\\" * (byte in b'"\\') + chr(byte) if plain else f"\\x{byte:02x}"
+        if len(line + char) > 114:
+            lines.append(line)
+            line, char = "", "\\x20" if byte == 32 else char
+        line += char
+    return "\\\n    ".join(lines + [line])
+
+
+def listed(items):
+    return f"Items {{ items: [{', '.join(items)}] }}"
+
+
+def shown(value, kind=None):
+    """A value as the program shows it: one of a partition with its type, or one within a list."""
+    kind = kind["type"] if isinstance(kind, dict) else kind
+    if isinstance(value, bytes):
+        text = f"Bytes {{ inner: {list(value)} }}"
+    elif isinstance(value, str):
+        text = f'Text {{ inner: "{value}" }}'
+    elif isinstance(value, dict):
+        text = f"({shown(value['key'])}, {shown(value['value'])})"
+    elif kind in ("float", "double"):
+        text = list(struct.pack("<f" if kind == "float" else "<d", value)) if value is not None else ""
+    else:
+        text = str(value).lower()
+    variant = {"boolean": "Bool", "int": "Int", "long": "Long", "float": "Float4", "double": "Float8", "string": "Str", "bytes": "Blob",
+               "fixed": "Fix"}
+    return "Null" if value is None else f"{variant[kind]}({text})" if kind else text
+
+
+def told_of_file(file):
+    """The partition, the lists and the bounds of a data file as the program shows them."""
+    partition = listed(shown(file["partition"][name], avro) for _, name, _, _, avro, _ in PARTS)
+    lists = [file[name] for name in ("column_sizes", "value_counts", "null_value_counts", "nan_value_counts", "lower_bounds",
+                                     "upper_bounds", "split_offsets")]
+    told = ["None" if of is None else f"Some({listed(map(shown, of))})" for of in lists]
+    return f"Fields({partition}) " + " ".join(told)
+
+
+def constants():
+    """Some of the files as constants of the tests."""
+    named = {"DATA": data_manifest(), "DELETES": delete_manifest(), "NULL_NUMBERS": null_numbers()[0]}
+    lines = ["//! Manifests as other writers lay them out, made by tests/manifest_files.py, which has their values in tests/manifests."]
+    for name, file in named.items():
+        lines.append(f'\n/// `{file.name}`.\npub(crate) const {name}: &[u8] =\n    b"{literal(file.bytes())}";')
+    told = [json.dumps(told_of_file(row["data_file"]), ensure_ascii=False) for row in named["DATA"].rows]
+    lines.append("\n/// The partitions and the lists of its files.\npub(crate) const DATA_FILES: [&str; 5] = [")
+    lines += [f"    {text}," for text in told] + ["];"]
+    return ("\n".join(lines) + "\n").encode()
+
+
 def unmarked(schema):
     """A schema without its logical types, by which the library would give dates and decimals in place of what is written."""
     if isinstance(schema, dict):
@@ -249,6 +309,8 @@ def main(words):
     if words == ["--check"]:
         stands = {file.name: file.read_bytes() for file in FOLDER.iterdir()}
         other = sorted(name for name in stands.keys() | files.keys() if stands.get(name) != files.get(name))
+        if CONSTANTS.read_bytes() != constants():
+            sys.exit(f"{CONSTANTS}: isn't what the script makes")
         for name in other:
             print(f"tests/manifests/{name}: isn't what the script makes")
         if other:
@@ -256,6 +318,7 @@ def main(words):
     else:
         for name, data in files.items():
             (FOLDER / name).write_bytes(data)
+        CONSTANTS.write_bytes(constants())
     print(f"{len(files)} files, {sum(map(len, files.values()))} bytes; {read_back()}")
     return 0
 

@@ -1,4 +1,8 @@
-pub mod Checks
 pub mod Steps
-pub mod Rows
+pub mod Records
+pub mod Numbers
+pub mod Texts
+pub mod OfRows
+pub mod OfEntries
 pub mod Spelled
+pub mod Whole

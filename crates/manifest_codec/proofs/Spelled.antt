@@ -1,10 +1,11 @@
--- What is read as a manifest list is spelled as one.
-use Rattle.std.proofs.Common.{◌≡◌, ℕ, zero, suc, ◌-◌, List, [], ◌∷◌, ◌++◌, length, Result, Ok, Err, Bool, true, false, ◌==◌, cond, refl, sym, ap, ◌∙◌, subst, arith, eqb-true}
+-- What is read as a manifest list, or as a manifest, is spelled as one.
+use Rattle.std.proofs.Common.{◌≡◌, ℕ, zero, suc, ◌-◌, List, [], ◌∷◌, ◌++◌, length, Result, Ok, Err, Option, Bool, true, false, ◌==◌, cond, refl, sym, ap, subst, arith, eqb-true}
 use Rattle.std.specs.List.{flat_map}
 use Rattle.serde_json.specs.Read.{read as read_text}
 use Rattle.avro_container.specs.declared.fault.ContainerCause.{ContainerCause}
-use Rattle.avro_container.specs.Reading.{Read, Fault as Left}
-use Rattle.avro_container.specs.Container.{SpellsBlock, Pair}
+use Rattle.avro_container.specs.declared.fault.ContainerCause.TheVariants.{Short}
+use Rattle.avro_container.specs.Reading.{Read}
+use Rattle.avro_container.specs.Container.{SpellsBlock, SpellsHeader, Pair}
 use Rattle.avro_container.specs.ContainerReading.{container_block_at, header_at, Said}
 use Rattle.avro_container.specs.Spelling.{SpellsEach}
 use Rattle.avro_container.proofs.BlockLaws.{block_found}
@@ -13,160 +14,219 @@ use Rattle.avro_schema.specs.declared.schema.Field.{Field}
 use Rattle.avro_schema.specs.declared.schema.Schema.{Schema, out-Schema}
 use Rattle.avro_schema.specs.Form.{Form, form_of}
 use Rattle.avro_pieces.specs.declared.fault.DatumCause.{DatumCause}
-use Rattle.avro_datum.specs.declared.datum.Datum.{Datum}
+use Rattle.avro_datum.specs.declared.datum.Datum.{Datum, out-Datum}
 use Rattle.avro_datum.specs.Reading.{read}
 use Rattle.avro_datum.specs.Spelling.{Spells}
 use Rattle.avro_datum.proofs.Found.{found}
-use Rattle.manifest_columns.specs.declared.slots.Slot.{Slot}
+use Rattle.manifest_cells.specs.Cells.{fields_in}
 use Rattle.manifest_columns.specs.Shapes.{fields_of}
 use Rattle.manifest_columns.specs.Tables.{row_columns}
+use Rattle.manifest_entries.specs.declared.entry.Entry.{Entry}
+use Rattle.manifest_entries.specs.Entries.{IsEntry}
 use Rattle.manifest_rows.specs.declared.row.ManifestRow.{ManifestRow}
-use Rattle.manifest_rows.specs.Rows.{row_slots}
+use Rattle.manifest_rows.specs.Rows.{IsRow, row_slots}
 use Rattle.manifest_codec.specs.declared.fault.ManifestCause.{ManifestCause}
 use Rattle.manifest_codec.specs.declared.fault.ManifestCause.TheVariants.{Container, Value}
-use Rattle.avro_container.specs.declared.fault.ContainerCause.TheVariants.{Short}
 use Rattle.manifest_codec.specs.Faults.{Fault, ◌>>=◌, placed, at_schema}
-use Rattle.manifest_codec.specs.Objects.{Objects, ended, stopped, object, with_object, in_block, with_block, in_blocks}
+use Rattle.manifest_codec.specs.Objects.{Objects, ended, stopped, with_object, in_block, with_block, in_blocks}
+use Rattle.manifest_codec.specs.Records.{AreEach}
 use Rattle.manifest_codec.specs.Schemas.{Head, text_schema, checked, head_at, file_at}
-use Rattle.manifest_codec.specs.Lists.{AreRows, GivesList, IsList}
-use Rattle.manifest_codec.specs.Spelling.{SpellsObjects, StandFor, SpellsList, ListsAreSpelled}
+use Rattle.manifest_codec.specs.Lists.{IsRowAt, GivesList}
+use Rattle.manifest_codec.specs.Manifests.{IsEntryAt, GivesManifest, checked_entry, manifest_slots}
+use Rattle.manifest_codec.specs.Spelling.{SpellsObjects, StandEach, ListsAreSpelled, ManifestsAreSpelled}
 
--- no rows are those of objects that end with a fault
-none_of : {A : Type 0} (slots : List Slot) (cause : ManifestCause) (at : ℕ) (rows : List ManifestRow) → AreRows slots (stopped cause at) rows → A
-none_of slots cause at [] h = absurd h
-none_of slots cause at (row ∷ rows) h = absurd h
-
-stand_both : (slots : List Slot) (ds es : List Datum) (rows more : List ManifestRow) → StandFor slots ds rows → StandFor slots es more → StandFor slots (ds ++ es) (rows ++ more)
-stand_both slots [] es [] more h g = g
-stand_both slots [] es (row ∷ rows) more h g = absurd h
-stand_both slots (d ∷ ds) es [] more h g = absurd h
-stand_both slots (d ∷ ds) es (row ∷ rows) more h g = (h.0, stand_both slots ds es rows more h.1 g)
-
--- the values of a block, their rows, and the rows behind them
-record Inside (slots : List Slot) (f : Form) (count : ℕ) (bytes : List ℕ) (next : Objects) (rows : List ManifestRow) : Type 0 where
+-- the values of a block, what they stand for, and what is behind them
+record Inside {A : Type 0} (Is : ℕ → Datum → A → Type 0) (Of : Datum → A → Type 0) (f : Form) (count : ℕ) (bytes : List ℕ) (next : Objects) (xs : List A) : Type 0 where
   ds : List Datum
-  own : List ManifestRow
-  more : List ManifestRow
+  own : List A
+  more : List A
   values : SpellsEach (Spells f) ds bytes
   counted : length ds ≡ count
-  stand : StandFor slots ds own
-  behind : AreRows slots next more
-  is : rows ≡ own ++ more
-
-no_bytes : (b : Bool) (bytes : List ℕ) (slots : List Slot) (cause : ManifestCause) (at : ℕ) (f : Form) (next : Objects) (rows : List ManifestRow) → (length bytes == 0) ≡ b → AreRows slots (cond b next (stopped cause at)) rows → Inside slots f 0 bytes next rows
-no_bytes true [] slots cause at f next rows e h = record { ds = []; own = []; more = rows; values = refl; counted = refl; stand = tt; behind = h; is = refl }
-no_bytes true (x ∷ bytes) slots cause at f next rows e h = absurd (let none : length (x ∷ bytes) ≡ 0 = eqb-true (length (x ∷ bytes)) 0 e in omega arith)
-no_bytes false bytes slots cause at f next rows e h = none_of slots cause at rows h
-
--- the values behind an object
-step : (slots : List Slot) (f : Form) (end : ℕ) (next : Objects) (n : ℕ) (bytes : List ℕ) (behind : List ℕ → Objects) (r : Read DatumCause Datum) (rows : List ManifestRow) → read f bytes ≡ r
-    → ((rest : List ℕ) (rows : List ManifestRow) → AreRows slots (behind rest) rows → Inside slots f n rest next rows) → AreRows slots (with_object end (length bytes) r behind) rows → Inside slots f (suc n) bytes next rows
-step slots f end next n bytes behind (Err (cause, left)) rows e go h = none_of slots (Value cause) (end - left) rows h
-step slots f end next n bytes behind (Ok (d, rest)) [] e go h = absurd h
-step slots f end next n bytes behind (Ok (d, rest)) (row ∷ rows) e go h =
-    let more = go rest rows h.1 in
-    let front = found f bytes d rest e in record {
-      ds = d ∷ more.ds;
-      own = row ∷ more.own;
-      more = more.more;
-      values = record { front = front.front; rest = rest; first = front.spells; second = more.values; is = front.is };
-      counted = ap suc more.counted;
-      stand = (h.0.0, more.stand);
-      behind = more.behind;
-      is = ap (λ rs. row ∷ rs) more.is;
-    }
-
-inside : (slots : List Slot) (f : Form) (first end : ℕ) (next : Objects) (count : ℕ) (bytes : List ℕ) (rows : List ManifestRow) → AreRows slots (in_block f first end next count bytes) rows → Inside slots f count bytes next rows
-unfolding in_block
-inside slots f first end next zero bytes rows h = no_bytes (length bytes == 0) bytes slots _ _ f next rows refl h
-inside slots f first end next (suc n) bytes rows h = step slots f end next n bytes (in_block f first end next n) (read f bytes) rows refl (λ rest rows h. inside slots f first end next n rest rows h) h
+  stand : StandEach Of ds own
+  behind : AreEach Is next more
+  is : xs ≡ own ++ more
 
 -- the blocks of a file and their values
-record Blocks (slots : List Slot) (f : Form) (sync bytes : List ℕ) (rows : List ManifestRow) : Type 0 where
-  blocks : List (List Datum)
-  spells : SpellsEach (SpellsObjects f sync) blocks bytes
-  stand : StandFor slots (flat_map (λ (ds : List Datum). ds) blocks) rows
+pub record Blocks {A : Type 0} (Of : Datum → A → Type 0) (f : Form) (sync bytes : List ℕ) (xs : List A) : Type 0 where
+  pub blocks : List (List Datum)
+  pub spells : SpellsEach (SpellsObjects f sync) blocks bytes
+  pub stand : StandEach Of (flat_map (λ (ds : List Datum). ds) blocks) xs
 
 empty : (bytes : List ℕ) → (length bytes == 0) ≡ true → bytes ≡ []
 empty [] e = refl
 empty (x ∷ bytes) e = absurd (let none : length (x ∷ bytes) ≡ 0 = eqb-true (length (x ∷ bytes)) 0 e in omega arith)
 
-no_blocks : (slots : List Slot) (f : Form) (sync bytes : List ℕ) (rows : List ManifestRow) → bytes ≡ [] → AreRows slots ended rows → Blocks slots f sync bytes rows
-no_blocks slots f sync bytes [] e h = record { blocks = []; spells = e; stand = tt }
-no_blocks slots f sync bytes (row ∷ rows) e h = absurd h
+module _ {A : Type 0} (Is : ℕ → Datum → A → Type 0) (Of : Datum → A → Type 0) (told : (at : ℕ) (d : Datum) (x : A) → Is at d x → Of d x) where
+  -- nothing is read of objects that end with a fault
+  none_of : {B : Type 0} (cause : ManifestCause) (at : ℕ) (xs : List A) → AreEach Is (stopped cause at) xs → B
+  none_of cause at [] h = absurd h
+  none_of cause at (x ∷ xs) h = absurd h
 
-block : (slots : List Slot) (f : Form) (sync : List ℕ) (n : ℕ) (bytes : List ℕ) (behind : List ℕ → Objects) (r : Read ContainerCause (ℕ × List ℕ)) (rows : List ManifestRow) → container_block_at sync bytes ≡ r
-    → ((rest : List ℕ) (rows : List ManifestRow) → AreRows slots (behind rest) rows → Blocks slots f sync rest rows) → AreRows slots (with_block f n behind r) rows → Blocks slots f sync bytes rows
-block slots f sync n bytes behind (Err (cause, left)) rows e go h = none_of slots (Container cause) (n - left) rows h
-block slots f sync n bytes behind (Ok ((count, body), rest)) rows e go h =
-    let own = inside slots f (n - length rest - 16 - length body) (n - length rest - 16) (behind rest) count body rows h in
-    let more = go rest own.more own.behind in
-    let front = block_found sync bytes count body rest e in
-    let P : ℕ → Type 0 = λ k. SpellsBlock sync k body front.0 in
-    let Q : List ManifestRow → Type 0 = StandFor slots (own.ds ++ flat_map (λ (ds : List Datum). ds) more.blocks) in record {
-      blocks = own.ds ∷ more.blocks;
-      spells = record { front = front.0; rest = rest; first = record { body = body; values = own.values; block = subst P (sym own.counted) front.1 }; second = more.spells; is = front.2 };
-      stand = subst Q (sym own.is) (stand_both slots own.ds (flat_map (λ (ds : List Datum). ds) more.blocks) own.own own.more own.stand more.stand);
+  stand_both : (ds es : List Datum) (xs more : List A) → StandEach Of ds xs → StandEach Of es more → StandEach Of (ds ++ es) (xs ++ more)
+  stand_both [] es [] more h g = g
+  stand_both [] es (x ∷ xs) more h g = absurd h
+  stand_both (d ∷ ds) es [] more h g = absurd h
+  stand_both (d ∷ ds) es (x ∷ xs) more h g = (h.0, stand_both ds es xs more h.1 g)
+
+  no_bytes : (b : Bool) (bytes : List ℕ) (cause : ManifestCause) (at : ℕ) (f : Form) (next : Objects) (xs : List A) → (length bytes == 0) ≡ b → AreEach Is (cond b next (stopped cause at)) xs → Inside Is Of f 0 bytes next xs
+  no_bytes true [] cause at f next xs e h = record { ds = []; own = []; more = xs; values = refl; counted = refl; stand = tt; behind = h; is = refl }
+  no_bytes true (x ∷ bytes) cause at f next xs e h = absurd (let none : length (x ∷ bytes) ≡ 0 = eqb-true (length (x ∷ bytes)) 0 e in omega arith)
+  no_bytes false bytes cause at f next xs e h = none_of cause at xs h
+
+  -- the values behind an object
+  step : (f : Form) (end : ℕ) (next : Objects) (n : ℕ) (bytes : List ℕ) (behind : List ℕ → Objects) (r : Read DatumCause Datum) (xs : List A) → read f bytes ≡ r
+      → ((rest : List ℕ) (xs : List A) → AreEach Is (behind rest) xs → Inside Is Of f n rest next xs) → AreEach Is (with_object end (length bytes) r behind) xs → Inside Is Of f (suc n) bytes next xs
+  step f end next n bytes behind (Err (cause, left)) xs e go h = none_of (Value cause) (end - left) xs h
+  step f end next n bytes behind (Ok (d, rest)) [] e go h = absurd h
+  step f end next n bytes behind (Ok (d, rest)) (x ∷ xs) e go h =
+      let more = go rest xs h.1 in
+      let front = found f bytes d rest e in record {
+        ds = d ∷ more.ds;
+        own = x ∷ more.own;
+        more = more.more;
+        values = record { front = front.front; rest = rest; first = front.spells; second = more.values; is = front.is };
+        counted = ap suc more.counted;
+        stand = (told (end - length bytes) d x h.0, more.stand);
+        behind = more.behind;
+        is = ap (λ rs. x ∷ rs) more.is;
+      }
+
+  inside : (f : Form) (first end : ℕ) (next : Objects) (count : ℕ) (bytes : List ℕ) (xs : List A) → AreEach Is (in_block f first end next count bytes) xs → Inside Is Of f count bytes next xs
+  unfolding in_block
+  inside f first end next zero bytes xs h = no_bytes (length bytes == 0) bytes _ _ f next xs refl h
+  inside f first end next (suc n) bytes xs h = step f end next n bytes (in_block f first end next n) (read f bytes) xs refl (λ rest xs h. inside f first end next n rest xs h) h
+
+  no_blocks : (f : Form) (sync bytes : List ℕ) (xs : List A) → bytes ≡ [] → AreEach Is ended xs → Blocks Of f sync bytes xs
+  no_blocks f sync bytes [] e h = record { blocks = []; spells = e; stand = tt }
+  no_blocks f sync bytes (x ∷ xs) e h = absurd h
+
+  block : (f : Form) (sync : List ℕ) (n : ℕ) (bytes : List ℕ) (behind : List ℕ → Objects) (r : Read ContainerCause (ℕ × List ℕ)) (xs : List A) → container_block_at sync bytes ≡ r
+      → ((rest : List ℕ) (xs : List A) → AreEach Is (behind rest) xs → Blocks Of f sync rest xs) → AreEach Is (with_block f n behind r) xs → Blocks Of f sync bytes xs
+  block f sync n bytes behind (Err (cause, left)) xs e go h = none_of (Container cause) (n - left) xs h
+  block f sync n bytes behind (Ok ((count, body), rest)) xs e go h =
+      let own = inside f (n - length rest - 16 - length body) (n - length rest - 16) (behind rest) count body xs h in
+      let more = go rest own.more own.behind in
+      let front = block_found sync bytes count body rest e in
+      let P : ℕ → Type 0 = λ k. SpellsBlock sync k body front.0 in
+      let Q : List A → Type 0 = StandEach Of (own.ds ++ flat_map (λ (ds : List Datum). ds) more.blocks) in record {
+        blocks = own.ds ∷ more.blocks;
+        spells = record { front = front.0; rest = rest; first = record { body = body; values = own.values; block = subst P (sym own.counted) front.1 }; second = more.spells; is = front.2 };
+        stand = subst Q (sym own.is) (stand_both own.ds (flat_map (λ (ds : List Datum). ds) more.blocks) own.own own.more own.stand more.stand);
+      }
+
+  -- a file ends, or a block or a fault follows
+  next_in : (f : Form) (sync bytes : List ℕ) (other : Objects) (b : Bool) (xs : List A) → (length bytes == 0) ≡ b → (AreEach Is other xs → Blocks Of f sync bytes xs) → AreEach Is (cond b ended other) xs → Blocks Of f sync bytes xs
+  next_in f sync bytes other true xs e go h = no_blocks f sync bytes xs (empty bytes e) h
+  next_in f sync bytes other false xs e go h = go h
+
+  pub whole : (f : Form) (sync : List ℕ) (n most : ℕ) (bytes : List ℕ) (xs : List A) → AreEach Is (in_blocks f sync n most bytes) xs → Blocks Of f sync bytes xs
+  unfolding in_blocks
+  whole f sync n zero bytes xs h = next_in f sync bytes (stopped (Container Short) n) (length bytes == 0) xs refl (none_of (Container Short) n xs) h
+  whole f sync n (suc most) bytes xs h =
+      next_in f sync bytes (with_block f n (in_blocks f sync n most) (container_block_at sync bytes)) (length bytes == 0) xs refl
+      (block f sync n bytes (in_blocks f sync n most) (container_block_at sync bytes) xs refl (λ rest xs h. whole f sync n most rest xs h)) h
+
+-- what is read of a file
+abbrev pub Given : Type 0
+Given = Result (List Field × List Pair × Objects) Fault
+
+-- a file whose header, schema and fields were read
+record Opened (check : Option (List Field) → Result (List Field) ManifestCause) (bytes : List ℕ) (fs : List Field) (meta : List Pair) (objects : Objects) : Type 0 where
+  text : List ℕ
+  sync : List ℕ
+  schema : Schema
+  head : List ℕ
+  body : List ℕ
+  is_header : SpellsHeader text meta sync head
+  is_schema : text_schema (read_text text) ≡ Ok schema
+  has_columns : check (fields_of (out-Schema schema)) ≡ Ok fs
+  has_objects : objects ≡ in_blocks (form_of schema) sync (length bytes) (length body) body
+  is : bytes ≡ head ++ body
+
+module _ (check : Option (List Field) → Result (List Field) ManifestCause) (bytes : List ℕ) (G : Given → Type 0) (refused : (e : Fault) → G (Err e) → ⊥) where
+  abbrev Reads : Type 0
+  Reads = (fs : List Field) × (meta : List Pair) × (objects : Objects) × Opened check bytes fs meta objects × G (Ok (fs, meta, objects))
+
+  abbrev to_file : List Pair → List ℕ → List ℕ → Schema → List Field → Given
+  to_file meta sync rest s fs = Ok (fs, meta, in_blocks (form_of s) sync (length bytes) (length rest) rest)
+
+  abbrev of_head : Head → Given
+  of_head h = at_schema (check (fields_of (out-Schema h.0))) >>= to_file h.1 h.2 h.3 h.0
+
+  abbrev to_head : Said × List ℕ → Schema → Result Head Fault
+  to_head h s = Ok (s, h.0.1, h.0.2, h.1)
+
+  of_fields : (text : List ℕ) (meta : List Pair) (sync rest : List ℕ) (s : Schema) (c : Result (List Field) ManifestCause) → header_at bytes ≡ Ok ((text, meta, sync), rest) → text_schema (read_text text) ≡ Ok s
+      → check (fields_of (out-Schema s)) ≡ c → G (at_schema c >>= to_file meta sync rest s) → Reads
+  of_fields text meta sync rest s (Err cause) e f g h = absurd (refused _ h)
+  of_fields text meta sync rest s (Ok fs) e f g h =
+      let front = header_found bytes text meta sync rest e in (
+        fs,
+        meta,
+        in_blocks (form_of s) sync (length bytes) (length rest) rest,
+        record { text = text; sync = sync; schema = s; head = front.front; body = rest; is_header = front.spells; is_schema = f; has_columns = g; has_objects = refl; is = front.is },
+        h,
+      )
+
+  of_schema : (text : List ℕ) (meta : List Pair) (sync rest : List ℕ) (s : Result Schema ManifestCause) → header_at bytes ≡ Ok ((text, meta, sync), rest) → text_schema (read_text text) ≡ s
+      → G ((at_schema s >>= to_head ((text, meta, sync), rest)) >>= of_head) → Reads
+  of_schema text meta sync rest (Err cause) e f h = absurd (refused _ h)
+  of_schema text meta sync rest (Ok s) e f h = of_fields text meta sync rest s (check (fields_of (out-Schema s))) e f refl h
+
+  of_header : (r : Read ContainerCause Said) → header_at bytes ≡ r
+      → G ((placed (length bytes) r >>= λ h. at_schema (text_schema (read_text h.0.0)) >>= to_head h) >>= of_head) → Reads
+  of_header (Err (cause, left)) e h = absurd (refused _ h)
+  of_header (Ok ((text, meta, sync), rest)) e h = of_schema text meta sync rest (text_schema (read_text text)) e refl h
+
+  reads : G (file_at check bytes) → Reads
+  unfolding file_at head_at
+  reads h = of_header (header_at bytes) refl h
+
+pub lists_spelled : ListsAreSpelled
+lists_spelled bytes rows h =
+    let r = reads (checked row_columns) bytes (λ file. GivesList file (Ok rows)) (λ e h. h) h in
+    let o = r.3 in
+    let Is : ℕ → Datum → ManifestRow → Type 0 = IsRowAt (row_slots r.0) in
+    let Of : Datum → ManifestRow → Type 0 = λ d row. IsRow (row_slots r.0) (fields_in (out-Datum d)) row in
+    let P : Objects → Type 0 = λ objects. AreEach Is objects rows in
+    let all = whole Is Of (λ at d x h. h.0) (form_of o.schema) o.sync (length bytes) (length o.body) o.body rows (subst P o.has_objects r.4) in record {
+      text = o.text;
+      meta = r.1;
+      sync = o.sync;
+      schema = o.schema;
+      fields = r.0;
+      blocks = all.blocks;
+      head = o.head;
+      body = o.body;
+      is_header = o.is_header;
+      is_schema = o.is_schema;
+      has_columns = o.has_columns;
+      are_blocks = all.spells;
+      are_rows = all.stand;
+      is = o.is;
     }
 
--- a file ends, or a block or a fault follows
-next_in : (slots : List Slot) (f : Form) (sync bytes : List ℕ) (other : Objects) (b : Bool) (rows : List ManifestRow) → (length bytes == 0) ≡ b → (AreRows slots other rows → Blocks slots f sync bytes rows) → AreRows slots (cond b ended other) rows → Blocks slots f sync bytes rows
-next_in slots f sync bytes other true rows e go h = no_blocks slots f sync bytes rows (empty bytes e) h
-next_in slots f sync bytes other false rows e go h = go h
-
-whole : (slots : List Slot) (f : Form) (sync : List ℕ) (n most : ℕ) (bytes : List ℕ) (rows : List ManifestRow) → AreRows slots (in_blocks f sync n most bytes) rows → Blocks slots f sync bytes rows
-unfolding in_blocks
-whole slots f sync n zero bytes rows h = next_in slots f sync bytes (stopped (Container Short) n) (length bytes == 0) rows refl (none_of slots (Container Short) n rows) h
-whole slots f sync n (suc most) bytes rows h =
-    next_in slots f sync bytes (with_block f n (in_blocks f sync n most) (container_block_at sync bytes)) (length bytes == 0) rows refl
-    (block slots f sync n bytes (in_blocks f sync n most) (container_block_at sync bytes) rows refl (λ rest rows h. whole slots f sync n most rest rows h)) h
-
--- what a head gives, and what a header and a schema give
-abbrev to_file : ℕ → Head → Result (List Field × Objects) Fault
-to_file n h = Ok (h.1, in_blocks (form_of h.0) h.2 n (length h.3) h.3)
-
-abbrev to_head : List ℕ → List ℕ → Schema → List Field → Result Head Fault
-to_head sync rest s fs = Ok (s, fs, sync, rest)
-
-abbrev of_schema_at : List ℕ → List ℕ → Schema → Result Head Fault
-of_schema_at sync rest s = at_schema (checked row_columns (fields_of (out-Schema s))) >>= to_head sync rest s
-
-abbrev of_header_at : Said × List ℕ → Result Head Fault
-of_header_at h = at_schema (text_schema (read_text h.0.0)) >>= of_schema_at h.0.2 h.1
-
-pub spelled : ListsAreSpelled
-unfolding file_at head_at
-spelled bytes rows h = of_header (header_at bytes) refl h
-  where
-    of_fields : (text : List ℕ) (meta : List Pair) (sync rest : List ℕ) (s : Schema) (c : Result (List Field) ManifestCause) → header_at bytes ≡ Ok ((text, meta, sync), rest) → text_schema (read_text text) ≡ Ok s → checked row_columns (fields_of (out-Schema s)) ≡ c
-        → GivesList ((at_schema c >>= to_head sync rest s) >>= to_file (length bytes)) (Ok rows) → SpellsList rows bytes
-    of_fields text meta sync rest s (Err cause) e f g h = absurd h
-    of_fields text meta sync rest s (Ok fs) e f g h =
-        let front = header_found bytes text meta sync rest e in
-        let all = whole (row_slots fs) (form_of s) sync (length bytes) (length rest) rest rows h in record {
-          text = text;
-          meta = meta;
-          sync = sync;
-          schema = s;
-          fields = fs;
-          blocks = all.blocks;
-          head = front.front;
-          body = rest;
-          is_header = front.spells;
-          is_schema = f;
-          has_columns = g;
-          are_blocks = all.spells;
-          are_rows = all.stand;
-          is = front.is;
-        }
-
-    of_schema : (text : List ℕ) (meta : List Pair) (sync rest : List ℕ) (s : Result Schema ManifestCause) → header_at bytes ≡ Ok ((text, meta, sync), rest) → text_schema (read_text text) ≡ s
-        → GivesList ((at_schema s >>= of_schema_at sync rest) >>= to_file (length bytes)) (Ok rows) → SpellsList rows bytes
-    of_schema text meta sync rest (Err cause) e f h = absurd h
-    of_schema text meta sync rest (Ok s) e f h = of_fields text meta sync rest s (checked row_columns (fields_of (out-Schema s))) e f refl h
-
-    of_header : (r : Read ContainerCause Said) → header_at bytes ≡ r
-        → GivesList ((placed (length bytes) r >>= of_header_at) >>= to_file (length bytes)) (Ok rows)
-        → SpellsList rows bytes
-    of_header (Err (cause, left)) e h = absurd h
-    of_header (Ok ((text, meta, sync), rest)) e h = of_schema text meta sync rest (text_schema (read_text text)) e refl h
+pub manifests_spelled : ManifestsAreSpelled
+manifests_spelled ps bytes m h =
+    let r = reads (checked_entry ps) bytes (λ file. GivesManifest ps file (Ok m)) (λ e h. h) h in
+    let o = r.3 in
+    let Is : ℕ → Datum → Entry → Type 0 = IsEntryAt (manifest_slots ps r.0) in
+    let Of : Datum → Entry → Type 0 = λ d entry. IsEntry (manifest_slots ps r.0) (fields_in (out-Datum d)) entry in
+    let P : Objects → Type 0 = λ objects. AreEach Is objects m.entries in
+    let all = whole Is Of (λ at d x h. h.0) (form_of o.schema) o.sync (length bytes) (length o.body) o.body m.entries (subst P o.has_objects r.4.0) in record {
+      text = o.text;
+      meta = r.1;
+      sync = o.sync;
+      schema = o.schema;
+      fields = r.0;
+      blocks = all.blocks;
+      head = o.head;
+      body = o.body;
+      is_header = o.is_header;
+      is_schema = o.is_schema;
+      has_columns = o.has_columns;
+      are_blocks = all.spells;
+      are_entries = all.stand;
+      has_keys = r.4.1;
+      is = o.is;
+    }

@@ -1,5 +1,9 @@
 pub mod Faults
 pub mod Objects
+pub mod Records
 pub mod Schemas
 pub mod Lists
+pub mod Keys
+pub mod Manifests
 pub mod Spelling
+pub mod Whole

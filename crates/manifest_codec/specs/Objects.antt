@@ -1,5 +1,5 @@
 -- The objects of a container file in order, up to its end or its first fault (Apache Avro 1.11, "Object Container Files").
-use Rattle.std.specs.Prelude.{◌≡◌, ◌≤◌, ◌<◌, Bool, true, false, ℕ, zero, suc, ◌-◌, ◌+◌, List, length, drop, Result, Ok, Err, Option, Some, None, ◌==◌, if◌then◌else◌, slice_range}
+use Rattle.std.specs.Prelude.{◌≡◌, ◌≤◌, ◌<◌, Bool, true, false, ℕ, zero, suc, ◌-◌, List, length, drop, Result, Ok, Err, Option, Some, None, ◌==◌, if◌then◌else◌, slice_range}
 use Rattle.avro_container.specs.declared.fault.ContainerCause.{ContainerCause}
 use Rattle.avro_container.specs.declared.fault.ContainerCause.TheVariants.{BadSize, Short}
 use Rattle.avro_container.specs.Reading.{Read}

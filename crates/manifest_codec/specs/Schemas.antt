@@ -1,5 +1,6 @@
 -- What the schema of a file must have, and its first fault (Apache Iceberg specification, "Manifests" and "Manifest Lists").
 use Rattle.std.specs.Prelude.{◌≡◌, ◌≤◌, ℕ, ℤ, List, length, drop, Result, Ok, Err, Option, Some, None}
+use Rattle.std.specs.Borrow.{Bor}
 use Rattle.serde_json.specs.Data.{Data}
 use Rattle.serde_json.specs.Read.{read as read_text}
 use Rattle.avro_schema.specs.declared.fault.SchemaCause.{SchemaCause}
@@ -55,33 +56,31 @@ abbrev pub checked : List Column → Option (List Field) → Result (List Field)
 checked columns None = Err BadSchema
 checked columns (Some fs) = unless fs (fields_fault (schema_fault Lacks None columns fs) (schema_fault Bad None columns fs))
 
--- what the front of a file says: its schema, that record's fields, its marker, and the bytes behind it
+-- what the front of a file says: its schema, its metadata, its marker, and the bytes behind it
 abbrev pub Head : Type 0
-Head = Schema × List Field × List ℕ × List ℕ
+Head = Schema × List Pair × List ℕ × List ℕ
 
--- The header, and its schema, which is a record that has these columns.
-unfoldable pub head_at : List Column → List ℕ → Result Head Fault
-head_at columns bytes = placed (length bytes) (header_at bytes)
-    >>= λ h. at_schema (text_schema (read_text h.0.0))
-    >>= λ s. at_schema (checked columns (fields_of (out-Schema s)))
-    >>= λ fs. Ok (s, fs, h.0.2, h.1)
+-- The header, and its schema.
+unfoldable pub head_at : List ℕ → Result Head Fault
+head_at bytes = placed (length bytes) (header_at bytes) >>= λ h. at_schema (text_schema (read_text h.0.0)) >>= λ s. Ok (s, h.0.1, h.0.2, h.1)
 
--- The fields of a file's records, and its objects, in at most as many blocks as there are bytes behind the header.
-unfoldable pub file_at : List Column → List ℕ → Result (List Field × Objects) Fault
-file_at columns bytes = head_at columns bytes >>= λ h. Ok (h.1, in_blocks (form_of h.0) h.2 (length bytes) (length h.3) h.3)
+-- The fields of a file's records, which are checked, its metadata, and its objects, in at most as many blocks as there are bytes behind the header.
+unfoldable pub file_at : (Option (List Field) → Result (List Field) ManifestCause) → List ℕ → Result (List Field × List Pair × Objects) Fault
+file_at check bytes = head_at bytes
+    >>= λ h. at_schema (check (fields_of (out-Schema h.0)))
+    >>= λ fs. Ok (fs, h.1, in_blocks (form_of h.0) h.2 (length bytes) (length h.3) h.3)
 
 -- A file that was opened is the head of the bytes.
-abbrev pub Opens : List Column → List ℕ → Result Container ManifestErr → Type 0
-Opens columns bytes (Ok file) = (fs : List Field) × (fields_of (out-Schema file.schema) ≡ Some fs)
-    × (head_at columns bytes ≡ Ok (file.schema, fs, file.header.sync, drop file.header.end bytes)) × (file.header.end ≤ length bytes)
-Opens columns bytes (Err e) = Fails e (head_at columns bytes)
+abbrev pub Opens : List ℕ → Result Container ManifestErr → Type 0
+Opens bytes (Ok file) = (head_at bytes ≡ Ok (file.schema, file.header.meta, file.header.sync, drop file.header.end bytes)) × (file.header.end ≤ length bytes)
+Opens bytes (Err e) = Fails e (head_at bytes)
 
 -- A schema is what the text spells, or its fault has the place 4.
 abbrev pub SchemaIs : Result Schema ManifestCause → Result Schema ManifestErr → Type 0
 SchemaIs read (Ok s) = read ≡ Ok s
 SchemaIs read (Err e) = Fails e (at_schema read)
 
--- A check ends well, or with this cause.
-abbrev pub CheckIs : Result (List Field) ManifestCause → Option ManifestCause → Type 0
-CheckIs read None = (fs : List Field) × (read ≡ Ok fs)
-CheckIs read (Some cause) = read ≡ Err cause
+-- The fields are those that were checked, or their fault has the place 4.
+abbrev pub FieldsAre : Result (List Field) ManifestCause → Result (Bor (List Field)) ManifestErr → Type 0
+FieldsAre read (Ok fs) = read ≡ Ok fs.now
+FieldsAre read (Err e) = Fails e (at_schema read)

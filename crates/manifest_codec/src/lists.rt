@@ -9,21 +9,22 @@ ghost use Rattle.manifest_rows.specs.Rows.{row_slots};
 ghost use Rattle.avro_schema.specs.declared.schema.Schema.{out-Schema};
 ghost use Rattle.manifest_codec.specs.Faults.{OnFault};
 ghost use Rattle.manifest_codec.specs.Objects.{objects_from, IsWithin};
-ghost use Rattle.manifest_codec.specs.Schemas.{file_at};
+ghost use Rattle.manifest_codec.specs.Schemas.{checked, file_at};
 ghost use Rattle.manifest_columns.specs.Slots.{known_fields};
 ghost use Rattle.manifest_codec.specs.Spelling.{ListsAreSpelled};
+ghost use Rattle.manifest_codec.specs.Whole.{SpelledListsAreRead};
 ghost use Rattle.manifest_codec.specs.Lists.{GivesList, GivesRow, GivesRows, IsList, NoList};
 
 use crate::container::Container;
 use crate::fault::{ManifestCause, ManifestErr};
 use crate::objects::{Progress, first_place, next_object};
-use crate::schemas::open;
+use crate::schemas::{checked, open};
 use avro_datum::Datum;
 use manifest_cells::{FieldErr, fields_in};
-use manifest_columns::{Slot, SlotList, fields_of, row_columns};
+use manifest_columns::{Slot, row_columns};
 use manifest_rows::{ManifestRow, row_of, row_slots};
 use sqlite_items::Items;
-use std::alloc::{AllocError, Global};
+use std::alloc::Global;
 
 /// Rows of a manifest list, in order.
 pub type RowList = Items<ManifestRow>;
@@ -69,33 +70,29 @@ fn rows_from(
     Ok(rows)
 }
 
-// Where the file's records have the columns of a row.
-fn slots_in(alloc: Global, file: &Container) -> Result<SlotList, AllocError>
-    ensures slots { IfOk result (λ slots. slots ≡ row_slots (known_fields (fields_of (out-Schema file.now.schema)))) }
-    ensures width { IfOk result (λ slots. length slots ≡ 15) }
-{
-    match fields_of(&file.schema) {
-        Some(fields) => row_slots(alloc, fields),
-        None => row_slots(alloc, &[]),
-    }
-}
-
 /// The rows of a manifest list, each with the place where it begins, in order.
 pub fn read_list(alloc: Global, bytes: &[u8]) -> Result<RowList, ManifestErr>
     // Exactly the rows of the file, or its first fault.
-    ensures exact { GivesList (file_at row_columns bytes.now) result }
+    ensures exact { GivesList (file_at (checked row_columns) bytes.now) result }
     // A fault comes only where the bytes are no list of rows.
     ensures none { OnFault result (NoList bytes.now) }
 {
-    let file = open(alloc, &row_columns(), bytes)?;
-    let slots = slots_in(alloc, &file)?;
+    let file = open(alloc, bytes)?;
+    let fields = checked(&row_columns(), &file.schema)?;
+    let slots = row_slots(alloc, fields)?;
     let place = first_place(bytes, file.header.end);
     rows_from(alloc, &file, slots.as_slice(), bytes, place)
 }
 
 /// What is read as a list is spelled as one: a header whose schema is a record with the columns of a row, and blocks of
 /// records that stand for the rows.
-#[tactic(auto, using(crate::proofs::Spelled::spelled))]
+#[tactic(auto, using(crate::proofs::Spelled::lists_spelled))]
 pub fn lists_are_spelled()
     ensures { ListsAreSpelled }
+{}
+
+/// What spells a list of rows is read as these rows, each with the place where it begins.
+#[tactic(auto, using(crate::proofs::Whole::lists_read))]
+pub fn spelled_lists_are_read()
+    ensures { SpelledListsAreRead }
 {}

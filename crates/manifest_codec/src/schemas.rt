@@ -5,7 +5,7 @@ ghost use Rattle.avro_schema.specs.declared.schema.Schema.{Schema, out-Schema};
 ghost use Rattle.manifest_columns.specs.Shapes.{fields_of};
 ghost use Rattle.manifest_columns.specs.declared.faults.Fault.TheVariants.{Lacks as lacks, Bad as bad};
 ghost use Rattle.manifest_columns.specs.Faults.{schema_fault};
-ghost use Rattle.manifest_codec.specs.Schemas.{cause_of, checked, fields_fault, text_schema, Opens, SchemaIs, CheckIs};
+ghost use Rattle.manifest_codec.specs.Schemas.{cause_of, checked, fields_fault, text_schema, FieldsAre, Opens, SchemaIs};
 ghost use Rattle.serde_json.specs.Read.{read as read_text};
 
 use crate::container::Container;
@@ -19,7 +19,7 @@ use std::alloc::Global;
 /// Where the faults of a file's schema stand: at the file metadata.
 const SCHEMA_PLACE: usize = 4;
 
-fn at_schema(cause: ManifestCause) -> ManifestErr
+pub(crate) fn at_schema(cause: ManifestCause) -> ManifestErr
     ensures { result ≡ ManifestErr.Bad 4 cause }
 {
     ManifestErr::Bad {
@@ -59,42 +59,48 @@ fn text_schema(alloc: Global, text: &str) -> Result<Schema, ManifestErr>
     }
 }
 
-// What is wrong with a record's fields.
-fn fields_fault(columns: &[Column], fields: &[Field]) -> Option<ManifestCause>
+/// What is wrong with a record's fields: first one that lacks, then one of another type.
+pub(crate) fn fields_fault(lacks: Option<i32>, bad: Option<i32>) -> Option<ManifestCause>
+    ensures { result ≡ fields_fault lacks bad }
+{
+    match (lacks, bad) {
+        (Some(id), _) => Some(ManifestCause::LacksField(id)),
+        (None, Some(id)) => Some(ManifestCause::BadField(id)),
+        (None, None) => None,
+    }
+}
+
+fn columns_fault(columns: &[Column], fields: &[Field]) -> Option<ManifestCause>
     ensures { result ≡ fields_fault (schema_fault lacks None columns.now fields.now) (schema_fault bad None columns.now fields.now) }
 {
-    if let Some(id) = least_fault(Fault::Lacks, columns, fields) {
-        return Some(ManifestCause::LacksField(id));
-    }
-    match least_fault(Fault::Bad, columns, fields) {
-        Some(id) => Some(ManifestCause::BadField(id)),
-        None => None,
-    }
+    fields_fault(
+        least_fault(Fault::Lacks, columns, fields),
+        least_fault(Fault::Bad, columns, fields),
+    )
 }
 
-// What is wrong with a schema that is read.
-fn schema_fault_of(columns: &[Column], schema: &Schema) -> Option<ManifestCause>
-    ensures { CheckIs (checked columns.now (fields_of (out-Schema schema.now))) result }
-{
-    match fields_of(schema) {
-        None => Some(ManifestCause::BadSchema),
-        Some(fields) => fields_fault(columns, fields),
-    }
-}
-
-/// The file's header and its schema, a record that has these columns.
-#[tactic(auto, unfolding(crate::specs::Schemas::head_at))]
-pub(crate) fn open(
-    alloc: Global,
+/// The fields of a schema that is a record with these columns.
+pub(crate) fn checked<'a>(
     columns: &[Column],
-    bytes: &[u8],
-) -> Result<Container, ManifestErr>
-    ensures { Opens columns.now bytes.now result }
+    schema: &'a Schema,
+) -> Result<&'a [Field], ManifestErr>
+    ensures { FieldsAre (checked columns.now (fields_of (out-Schema schema.now))) result }
+{
+    let Some(fields) = fields_of(schema) else {
+        return Err(at_schema(ManifestCause::BadSchema));
+    };
+    match columns_fault(columns, fields) {
+        None => Ok(fields),
+        Some(cause) => Err(at_schema(cause)),
+    }
+}
+
+/// The file's header, and its schema.
+#[tactic(auto, unfolding(crate::specs::Schemas::head_at))]
+pub(crate) fn open(alloc: Global, bytes: &[u8]) -> Result<Container, ManifestErr>
+    ensures { Opens bytes.now result }
 {
     let header = read_header(alloc, bytes)?;
     let schema = text_schema(alloc, header.schema_text.as_str())?;
-    match schema_fault_of(columns, &schema) {
-        None => Ok(Container { header, schema }),
-        Some(cause) => Err(at_schema(cause)),
-    }
+    Ok(Container { header, schema })
 }

@@ -3,7 +3,7 @@
 //!
 //! - `columns`: what is wrong with a file's schema, where it has the columns, and the schemas that are written.
 //! - `rows`, `files`, `entries`: records read and written.
-//! - `lists`: whole files of lists.
+//! - `lists`, `manifests`: whole files of them; `made` has some manifests.
 //! - `parts`: what a file's schema has of a partition.
 #![tactic(auto)]
 
@@ -15,6 +15,10 @@ mod entries;
 mod files;
 #[cfg(test)]
 mod lists;
+#[cfg(test)]
+mod made;
+#[cfg(test)]
+mod manifests;
 #[cfg(test)]
 mod parts;
 #[cfg(test)]

@@ -1,6 +1,8 @@
 //! Manifest lists as files.
 
-use manifest_codec::{ManifestCause, ManifestErr, lists_are_spelled, read_list};
+use manifest_codec::{
+    ManifestCause, ManifestErr, lists_are_spelled, read_list, spelled_lists_are_read,
+};
 use std::process::Abort;
 use std::test::Fail;
 
@@ -29,6 +31,7 @@ const TWO_ROWS: &[u8] =
 #[test]
 fn rows_of_a_list(rt: HostRuntime) -> Result<(), Fail> {
     lists_are_spelled();
+    spelled_lists_are_read();
     let rows = read_list(rt.alloc(), TWO_ROWS)?;
     let there = match rows.as_slice() {
         [a, b] => a.at == 1369 && b.at == 1386 && a.manifest_path.as_str() == "/m" && b.is_deletes,

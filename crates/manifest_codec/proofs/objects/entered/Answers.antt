@@ -1,8 +1,7 @@
-use Rattle.std.proofs.Common.{◌≡◌, ◌≤◌, ◌-◌, suc, length, drop, slice_range, arith, sym, ◌∙◌}
+use Rattle.std.proofs.Common.{◌≡◌, ◌-◌, suc, length, drop, arith, sym, ◌∙◌}
 use Rattle.std.proofs.lemmas.List.{length-drop}
 use Rattle.std.proofs.lemmas.Result.{err_from_is_err_and}
 use Rattle.avro_schema.specs.Form.{form_of}
-use Rattle.manifest_codec.specs.Objects.{in_blocks}
 use Rattle.manifest_codec.proofs.Steps.{unfilled, filled, at_end, too_many, block_fails, block_begins, body_len}
 use Rattle.manifest_codec.proofs.objects.entered.Goals as goal
 
