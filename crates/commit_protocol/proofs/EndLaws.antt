@@ -26,6 +26,7 @@ use Rattle.commit_versions.specs.declared.types.OpenErr.{OpenErr}
 use Rattle.commit_protocol.specs.Attempts.{TellsLimit}
 use Rattle.commit_protocol.specs.Ends.{AddsPlaces, DrawsBy, IsDraft, IsDraftOrBoth, IsPublishFault, LeavesBy}
 use Rattle.commit_protocol.specs.Kinds.{commit_kind}
+use Rattle.commit_protocol.specs.Prepares.{IsSpareEnd}
 use Rattle.commit_protocol.specs.Written.{IsUnwritten, commit_error_by, stop_error, draft_at, version_at}
 use Rattle.commit_protocol.specs.declared.committing.Base.{Base}
 use Rattle.commit_protocol.specs.declared.errors.Refusal.{Refusal}
@@ -94,6 +95,10 @@ module _ (place : Parts) where
   limit_no_fault e other (inl told) is = absurd (cc (told, is))
   limit_no_fault e other (inr told) is = absurd (cc (told, is))
 
+  pub limit_unspared : (e : CommitErr) → TellsLimit place e → IsSpareEnd (Err e) → ⊥
+  limit_unspared e (inl is) spare = subst (λ (x : CommitErr). IsSpareEnd (Err x)) is spare
+  limit_unspared e (inr is) spare = subst (λ (x : CommitErr). IsSpareEnd (Err x)) is spare
+
 -- A file that isn't drawn up.
 
 module _ (table : Parts) (base : Base) (built : Data) (now id : ℕ) where
@@ -135,6 +140,12 @@ module _ (table : Parts) (base : Base) (built : Data) (now id : ℕ) where
 
   pub unwritten_refuses_nothing : (e : AttemptErr) (refusal : Refusal) → Unwritten e → e ≡ attempts.Refused refusal → ⊥
   unwritten_refuses_nothing e refusal u is = subst (λ (x : AttemptErr). Unwritten x) is u
+
+  pub unwritten_unspared : (e : AttemptErr) → Unwritten e → IsSpareEnd (Err (Attempt e)) → ⊥
+  unwritten_unspared (attempts.Refused refusal) u spare = u
+  unwritten_unspared (attempts.Conflict place other) u spare = u
+  unwritten_unspared (attempts.NameTaken place) u spare = u
+  unwritten_unspared (attempts.Read e) u spare = spare
 
 -- A publish that did not end.
 
@@ -189,6 +200,23 @@ module _ (draft table : Parts) (version : ℕ) where
   publish_refuses_nothing publishes.NameTaken refusal is = absurd (cc (is))
   publish_refuses_nothing publishes.Contended refusal is = absurd (cc (is))
   publish_refuses_nothing (publishes.Stopped e) refusal is = stop_refuses_nothing e.call e.cause refusal is
+
+  stop_unspared : (call : PublishCall) (cause : StoreErr) → IsSpareEnd (Err (stop_error call cause draft table version)) → ⊥
+  stop_unspared call causes.Memory spare = spare
+  stop_unspared asked.Create causes.Failed spare = spare
+  stop_unspared asked.Append causes.Failed spare = spare
+  stop_unspared asked.Seal causes.Failed spare = spare
+  stop_unspared asked.SyncDraft causes.Failed spare = spare
+  stop_unspared asked.Rename causes.Failed spare = spare
+  stop_unspared asked.SyncRename causes.Failed spare = spare
+  stop_unspared asked.Remove causes.Failed spare = spare
+  stop_unspared asked.SyncRemoval causes.Failed spare = spare
+
+  -- it has drawn an identifier, and no answer of it says that none was
+  pub publish_unspared : (e : PublishErr) → IsSpareEnd (Err (told_error e)) → ⊥
+  publish_unspared publishes.NameTaken spare = spare
+  publish_unspared publishes.Contended spare = spare
+  publish_unspared (publishes.Stopped e) spare = stop_unspared e.call e.cause spare
 
   module _ (Drawn : ℕ → Type 0) (id : ℕ) (drawn : Drawn id) (draft_is : draft ≡ draft_at table id) (place : Parts) where
     on_draft : draft ≡ place → IsPublishFault Drawn table place

@@ -12,4 +12,5 @@ pub mod PromiseLaws
 pub mod ExactLaws
 pub mod NameLaws
 pub mod RoundLaws
+pub mod StandLaws
 pub mod PlainLaws

@@ -1,6 +1,6 @@
 -- Laws of what a commit tells: the change is asked, and what it built is published.
 use Rattle.std.proofs.Common.{◌≡◌, inl, inr, ℕ, Bool, true, false, List, [], ◌∷◌, ◌++◌, take, drop, length, Option, Some, None, Result, Ok, Err, refl, sym, ap, ◌∙◌, subst, append_assoc, append-nil}
-use Rattle.std.specs.Prelude.{IfErr}
+use Rattle.std.specs.Prelude.{IfErr, OnOk}
 use Rattle.std.proofs.lemmas.List.{append_cancel_left, append_cancel_right}
 use Rattle.serde_json.specs.Data.{Data}
 use Rattle.serde_json.specs.View.{view}
@@ -27,8 +27,8 @@ use Rattle.commit_protocol.specs.Attempts.{TellsLimit}
 use Rattle.commit_protocol.specs.Ends.{AddsPlaces, DrawsAlso, DrawsBy, DrawsOf, DrawsOne, IsDraft, IsDraftOrBoth, IsPublishFault, LeavesAtError, LeavesBy, LeavesOf, LeavesPublished, may_be_unasked, may_draw}
 use Rattle.commit_protocol.specs.Kinds.{attempt_kind, attempted_kind, commit_end, kind_of}
 use Rattle.commit_protocol.specs.Meanings.{LooksBy, Meanings, looking}
-use Rattle.commit_protocol.specs.Prepares.{GivesAll, GivesLast, MoreBy, Prepared, Prepares}
-use Rattle.commit_protocol.specs.Withdraws.{LeavesUnmade, MadeNone, WithdrawStage, Withdrawn, Withdraws, lost_answer, lost_version, withdraw_kind}
+use Rattle.commit_protocol.specs.Prepares.{GivesAll, GivesLast, IsSpareEnd, MoreBy, Prepared, Prepares}
+use Rattle.commit_protocol.specs.Withdraws.{LeavesUnmade, MadeNone, MadeStand, WithdrawStage, Withdrawn, Withdraws, lost_answer, lost_version, withdraw_kind}
 use Rattle.commit_protocol.specs.Rounds.{AttemptTells, CommitTells, IsUnasked, RoundTells, WithdrewBy, left_after}
 use Rattle.commit_protocol.specs.Verdicts.{IsOneDrawn}
 use Rattle.commit_protocol.specs.Metadata.{IsAt, metadata_local, table_rules}
@@ -250,7 +250,12 @@ lost_draws ids version (Ok u) a b (inr d) = inr d
 lost_draws ids version (Err (removals.StoreFault place)) a b (inr d) = inr d
 lost_draws ids version (Err removals.Memory) a b (inr d) = inr d
 
--- it refuses nothing, and isn't of an opening
+-- it spares nothing, refuses nothing, and isn't of an opening
+pub lost_unspared : (version : ℕ) (removed : Result (Unit {0}) RemoveErr) → IsSpareEnd (lost_answer version removed) → ⊥
+lost_unspared version (Ok u) spare = spare
+lost_unspared version (Err (removals.StoreFault place)) spare = spare
+lost_unspared version (Err removals.Memory) spare = spare
+
 pub lost_refuses : (version : ℕ) (removed : Result (Unit {0}) RemoveErr) (refusal : Refusal) → lost_answer version removed ≡ Err (Attempt (attempts.Refused refusal)) → ⊥
 lost_refuses version (Ok u) refusal is = cc (is)
 lost_refuses version (Err (removals.StoreFault place)) refusal is = cc (is)
@@ -299,7 +304,7 @@ unlost_left made Drawn table (Err (CommitUnknown v)) had has none l = l
 
 -- once the draft of a lost race is removed, nothing is pending
 module _ (table : Parts) (allows : Past → Step → Type 0) (meanings : Meanings) (given given' : Option (List ℕ)) (now : ℕ) where
-  no_unasked : (at : At) (version : ℕ) → IsUnasked table allows meanings given given' now at (Err (Contended version)) → ⊥
+  pub no_unasked : (at : At) (version : ℕ) → IsUnasked table allows meanings given given' now at (Err (Contended version)) → ⊥
   no_unasked at version (inl is) = cc (is)
   no_unasked at version (inr is) = cc (is.0)
 
@@ -346,6 +351,15 @@ module _ (table : Parts) (allows : Past → Step → Type 0) (meanings : Meaning
 
 abbrev pub no_file : List Parts
 no_file = []
+
+-- all of none stand
+pub none_stand : (table : Parts) (o : Option Past) → WhereTold o (MadeStand table no_file)
+none_stand table None = tt
+none_stand table (Some past) = tt
+
+pub none_stand_on : {T E : Type 0} (r : Result T E) (table : Parts) (o : Option Past) → OnOk r (WhereTold o (MadeStand table no_file))
+none_stand_on (Ok x) table o = none_stand table o
+none_stand_on (Err e) table o = tt
 
 withdraws_none : (Fails : StoreCall → Type 0) (table : Parts) (had : List Parts) → Withdraws Fails table no_file (Ok tt) had had []
 withdraws_none Fails table had = record { count = 0; taken = []; steps_are = refl; ends = refl; others = had; had_is = sym (append-nil had); has_is = sym (append-nil had) }

@@ -19,7 +19,7 @@ use Rattle.commit_protocol.specs.Kinds.{commit_end, kind_of}
 use Rattle.commit_protocol.specs.Meanings.{Meanings, only_successor}
 use Rattle.commit_protocol.specs.Metadata.{IsAt, OpenErrLeaves}
 use Rattle.commit_protocol.specs.Prepares.{GivesAll, IsSpareEnd, MakesNothing, Prepares}
-use Rattle.commit_protocol.specs.Withdraws.{MadeNone, Withdrawn, lost_answer, lost_version}
+use Rattle.commit_protocol.specs.Withdraws.{MadeNone, MadeStand, Withdrawn, lost_answer, lost_version}
 use Rattle.commit_protocol.specs.declared.opening.At.{At}
 use Rattle.commit_protocol.specs.declared.errors.AttemptErr.TheVariants as attempts
 use Rattle.commit_protocol.specs.declared.errors.CommitErr.TheVariants.{Open, Attempt, Contended, CommitUnknown}
@@ -69,6 +69,7 @@ module _ (table : Parts) (allows : Past → Step → Type 0) (meanings : Meaning
     pub before : Option Failure
     pub prepared : Prepares table allows meanings (view at.meta) kinds.Done at.place before old ready
     pub met : meanings.met old ready
+    pub stand : MadeStand table meanings.made ready
     pub asked : Option (List ℕ)
     pub drawn : GivesAll meanings.draws given asked
     pub published : AttemptLeaves table allows (only_successor built) (Gives asked given') now at result ready new

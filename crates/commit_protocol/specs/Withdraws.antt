@@ -1,15 +1,19 @@
 -- What becomes of the files that an attempt made where others took the version that would have named them: they are removed.
-use Rattle.std.specs.Prelude.{◌≡◌, ◌⊎◌, ℕ, List, [], ◌∷◌, ◌++◌, map, take, drop, Option, Some, None, Result, Ok, Err}
+use Rattle.std.specs.Prelude.{◌≡◌, ◌⊎◌, ℕ, true, List, [], ◌∷◌, ◌++◌, map, take, drop, Option, Some, None, Result, Ok, Err}
+use Rattle.ice_store.specs.Files.{find}
 use Rattle.ice_store.specs.Places.{Parts}
 use Rattle.ice_store.specs.Since.{Since}
 use Rattle.ice_store.specs.declared.faults.ReadErr.TheVariants as reads
 use Rattle.ice_store.specs.declared.history.Failure.{Failure}
+use Rattle.ice_store.specs.declared.history.Held.{Held}
 use Rattle.ice_store.specs.declared.history.Past.{Past}
 use Rattle.ice_store.specs.declared.history.Step.{Step}
 use Rattle.ice_store.specs.declared.history.Step.TheVariants.{Remove, SyncNames}
 use Rattle.ice_store.specs.declared.history.StoreCall.{StoreCall}
 use Rattle.ice_store.specs.declared.history.StoreCall.TheVariants.{Take}
+use Rattle.ice_store.specs.declared.history.Who.TheVariants.{Us}
 use Rattle.commit_history.specs.Runs.{Ran}
+use Rattle.commit_history.specs.Versions.{number_in}
 use Rattle.commit_publish.specs.Kinds as kinds
 use Rattle.commit_publish.specs.Kinds.{Kind, Failing, told_at}
 use Rattle.commit_publish.specs.Stages.{AtRest, InState}
@@ -21,6 +25,28 @@ use Rattle.commit_protocol.specs.declared.errors.CommitErr.TheVariants.{Open, At
 use Rattle.commit_protocol.specs.declared.errors.Committed.{Committed}
 use Rattle.commit_protocol.specs.declared.errors.RemoveErr.{RemoveErr}
 use Rattle.commit_protocol.specs.declared.errors.RemoveErr.TheVariants.{StoreFault, Memory}
+
+-- one of these files
+abbrev pub IsMadeAt : List Parts → Parts → Type 0
+IsMadeAt [] place = ⊥
+IsMadeAt (made ∷ places) place = (place ≡ made) ⊎ IsMadeAt places place
+
+-- a sealed file of ours stands at a place, and it is no version file
+pub record IsMadeFile (number : Parts → ℕ) (place : Parts) (files : List Held) : Type 0 where
+  pub file : Held
+  pub stands : find files place ≡ Some file
+  pub ours : file.maker ≡ Some Us
+  pub sealed_is : file.is_sealed ≡ true
+  pub plain : number place ≡ 0
+
+-- such files stand at all these places, no two of which are one
+abbrev pub HasMade : (Parts → ℕ) → List Parts → List Held → Type 0
+HasMade number [] files = Unit {0}
+HasMade number (place ∷ places) files = IsMadeFile number place files × (IsMadeAt places place → ⊥) × HasMade number places files
+
+-- so do the files that a change of a table made
+abbrev pub MadeStand : Parts → List Parts → Past → Type 0
+MadeStand table made = InState (λ d. HasMade (number_in table) made d.files)
 
 -- the steps that remove these files: each is removed, in order, and the names are synced behind them; where there is none, none
 abbrev pub withdraw_plan : List Parts → List Step
@@ -63,11 +89,6 @@ abbrev pub withdraw_kind : Result (Unit {0}) RemoveErr → Kind
 withdraw_kind (Ok done) = kinds.Done
 withdraw_kind (Err (StoreFault place)) = kinds.Fault place
 withdraw_kind (Err Memory) = kinds.Memory
-
--- one of these files
-abbrev pub IsMadeAt : List Parts → Parts → Type 0
-IsMadeAt [] place = ⊥
-IsMadeAt (made ∷ places) place = (place ≡ made) ⊎ IsMadeAt places place
 
 -- where a call of it failed, it is told at one of the files, or at the table
 abbrev pub TellsWithdraw : List Parts → Parts → Result (Unit {0}) RemoveErr → Type 0

@@ -2,22 +2,20 @@
 ghost use Rattle.std.specs.Prelude.{◌≡◌, ◌≤◌, [], ◌++◌, Ok, IfOk, IfErr, OnOk};
 ghost use Rattle.ice_store.specs.Others.{WhereTold};
 ghost use Rattle.ice_store.specs.Since.{Since};
-ghost use Rattle.serde_json.specs.Data.{Data as Tree};
 ghost use Rattle.serde_json.specs.View.{view};
 ghost use Rattle.commit_history.specs.Mannered.{IsMannered};
 ghost use Rattle.commit_history.specs.Versions.{number_in};
 ghost use Rattle.commit_publish.specs.Stages.{AtRest, InState};
 ghost use Rattle.commit_publish.specs.Kinds.{Counts, Marks};
 ghost use Rattle.commit_versions.specs.Opening.{OpenStage};
-ghost use Rattle.commit_protocol.specs.Meanings.{Meanings};
+ghost use Rattle.commit_protocol.specs.Meanings.{Meanings, SaysSame, TellsSame};
 ghost use Rattle.commit_protocol.specs.Metadata.{HasMetadataAt, table_rules};
 ghost use Rattle.metadata_view.specs.View.{location_of};
 ghost use Rattle.ice_store.specs.Places.{place_in};
 ghost use Rattle.commit_protocol.specs.Attempts.{MakesOf};
 ghost use Rattle.commit_protocol.specs.Kinds.{attempted_kind};
 ghost use Rattle.commit_protocol.specs.Prepares.{GivesAll, Prepares, SparesAll};
-ghost use Rattle.commit_protocol.specs.Withdraws.{EndsInMade, LeavesUnmade, TellsWithdraw, Withdrawing, withdraw_kind};
-ghost use Rattle.commit_protocol.specs.declared.errors.AttemptErr.{AttemptErr as Refused};
+ghost use Rattle.commit_protocol.specs.Withdraws.{EndsInMade, LeavesUnmade, MadeStand, TellsWithdraw, Withdrawing, withdraw_kind};
 
 use crate::errors::{AttemptErr, RemoveErr};
 use commit_publish::Log;
@@ -42,13 +40,18 @@ pub trait Change<M: Manners> {
     /// it found.
     ghost meanings: { Self → Self → Meanings };
 
+    /// What it means follows from what was asked, the identifiers that were drawn, the files that were made and what was
+    /// found: not from what was answered.
+    ghost fixed: { (asked one other : Self) → TellsSame (meanings asked one) (meanings asked other) → SaysSame (meanings asked one) (meanings asked other) };
+
     /// Builds the change on a base: the metadata `meta` that the version file at `base` spelled when it was read. The
     /// metadata is given away, so that it can be changed in place. The moment of an edit is the change's own.
     ///
     /// It may make files: it creates them under free names that are no version file's, appends to them and seals them, as
     /// `takes` says by its end, and removes and renames none. The log's `left` has them behind what it had, in order
     /// (`made`), also where the attempt refuses or fails; and behind them, after a failed creation, its place, which may be
-    /// absent. The identifiers that it draws are `draws`. After a failed call it makes no further one.
+    /// absent. Where it builds a successor all its files stand, sealed. The identifiers that it draws are `draws`. After a
+    /// failed call it makes no further one.
     fn attempt<S: Store<M>, I: Ids>(
         &mut self,
         alloc: Global,
@@ -69,9 +72,8 @@ pub trait Change<M: Manners> {
         ensures seen { OnOk result ((meanings self.old self.new).seen (view meta)) }
         ensures refused { IfErr result ((meanings self.old self.new).refuses (view meta)) }
         ensures spare { SparesAll (meanings self.old self.new) result }
-        ensures keeps_successor { (a b : Tree) → (meanings self.new self.new).successor a b → (meanings self.old self.new).successor a b }
-        ensures keeps_same { (a : Tree) → (meanings self.new self.new).same a → (meanings self.old self.new).same a }
-        ensures keeps_refuses { (a : Tree) (e : Refused) → (meanings self.new self.new).refuses a e → (meanings self.old self.new).refuses a e }
+        ensures stand { OnOk result (WhereTold (S.past store.new) (MadeStand table.now (meanings self.old self.new).made)) }
+        ensures keeps { SaysSame (meanings self.new self.new) (meanings self.old self.new) }
         ensures keeps_made { (meanings self.new self.new).made ≡ (meanings self.old self.new).made }
         ensures drawn { GivesAll (meanings self.old self.new).draws (I.given ids.old) (I.given ids.new) }
         ensures committed { log.new.committed.items ≡ log.old.committed.items }
@@ -82,8 +84,9 @@ pub trait Change<M: Manners> {
         ensures halted { Marks table.now (attempted_kind result) (S.halted store.old) (S.halted store.new) (S.past store.new) };
 
     /// Removes the files that the last attempt made, in order, once others took the version that would have named them, and
-    /// syncs the names behind the removals. The log's `left` has them at its end, and loses those that are gone. Where none
-    /// was made, no call is made. After a failed call it makes no further one.
+    /// syncs the names behind the removals. They still stand, sealed, and none is a version file. The log's `left` has them
+    /// at its end, and loses those that are gone. Where none was made, no call is made. After a failed call it makes no
+    /// further one.
     fn lost<S: Store<M>>(
         &self,
         store: &mut S,
@@ -92,6 +95,7 @@ pub trait Change<M: Manners> {
     ) -> Result<(), RemoveErr>
         requires mannered { IsMannered (table_rules table.now (M.allows (S.manners store.old))) }
         requires rest { WhereTold (S.past store.old) (InState (λ d. AtRest d.pending)) }
+        requires stand { WhereTold (S.past store.old) (MadeStand table.now (meanings self.now self.now).made) }
         requires noted { EndsInMade (meanings self.now self.now).made log.old.left.items }
         ensures told { Withdrawing S.past store.old store.new table.now (M.allows (S.manners store.old)) (meanings self.now self.now).made (S.halted store.new) result log.old.left.items log.new.left.items }
         ensures still { (meanings self.now self.now).made ≡ [] → S.past store.new ≡ S.past store.old }

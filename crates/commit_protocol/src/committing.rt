@@ -19,7 +19,7 @@ ghost use Rattle.commit_protocol.specs.Ends.{DrawsBy, DrawsOf, IsLeftOf, IsLeftP
 ghost use Rattle.commit_protocol.specs.Kinds.{commit_end, kind_of};
 ghost use Rattle.commit_protocol.specs.Meanings.{only_successor};
 ghost use Rattle.commit_protocol.specs.Metadata.{IsMetadata, table_rules};
-ghost use Rattle.commit_protocol.specs.Prepares.{GivesLast};
+ghost use Rattle.commit_protocol.specs.Prepares.{GivesLast, IsSpareEnd, MakesNothing};
 ghost use Rattle.commit_protocol.specs.Promises.{StopsHavePrefix, StopsHaveFiles, Succeeds};
 ghost use Rattle.commit_protocol.specs.Rounds.{Asking, Trying, Committing, left_after};
 ghost use Rattle.commit_protocol.specs.Verdicts.{IsNobody, IsCausedOf, IsExactlyOf};
@@ -182,6 +182,7 @@ fn publish_built<M: Manners, S: Store<M>, I: Ids>(
     ensures left { LeavesBy (Gives (I.given ids.old) (I.given ids.new)) table.now (kind_of (commit_end result)) log.old.left.items log.new.left.items }
     ensures works { PublishWorked S.past store.old store.new table.now (I.given ids.old) (I.given ids.new) now base (view meta) result (S.halted store.new) log.old log.new }
     ensures drawn { DrawsBy (commit_end result).versions (commit_end result).error (I.given ids.old) (I.given ids.new) }
+    ensures unspared { IsSpareEnd result → ⊥ }
     ensures refused { IsRefusedBy (only_successor (view meta)) result }
     ensures fault_place { TellsFault (only_successor (view meta)) (Gives (I.given ids.old) (I.given ids.new)) table.now result }
     ensures unopened { (e : TheOpenErr) → result ≡ Err (CommitErr.Open e) → ⊥ }
@@ -252,6 +253,7 @@ fn ask_and_publish<M: Manners, S: Store<M>, I: Ids, X: Change<M>>(
     ensures left { IsLeftPublished (X.meanings change.old change.new) (I.given ids.old) (I.given ids.new) table.now (commit_end result) log.old log.new }
     ensures drawn { DrawsOf (X.meanings change.old change.new).draws (commit_end result).versions (commit_end result).error (I.given ids.old) (I.given ids.new) }
     ensures kept { (X.meanings change.new change.new).made ≡ (X.meanings change.old change.new).made }
+    ensures spare { IsSpareEnd result → MakesNothing (X.meanings change.old change.new) }
     ensures refused { IsRefusedBy (X.meanings change.old change.new) result }
     ensures fault_place { TellsFault (X.meanings change.old change.new) (GivesLast (X.meanings change.old change.new).draws (I.given ids.old) (I.given ids.new)) table.now result }
     ensures unopened { (e : TheOpenErr) → result ≡ Err (CommitErr.Open e) → ⊥ }
@@ -324,6 +326,7 @@ fn attempt_on_base<M: Manners, S: Store<M>, I: Ids, X: Change<M>>(
     ensures committed { log.new.committed.items ≡ log.old.committed.items ++ (commit_end result).versions }
     ensures left { IsLeftOf (X.meanings change.old change.new) (I.given ids.old) (I.given ids.new) table.now (commit_end result) log.old log.new }
     ensures drawn { DrawsOf (X.meanings change.old change.new).draws (commit_end result).versions (commit_end result).error (I.given ids.old) (I.given ids.new) }
+    ensures spare { IsSpareEnd result → MakesNothing (X.meanings change.old change.new) }
     ensures refused { IsRefusedBy (X.meanings change.old change.new) result }
     ensures fault_place { TellsFault (X.meanings change.old change.new) (GivesLast (X.meanings change.old change.new).draws (I.given ids.old) (I.given ids.new)) table.now result }
     ensures unopened { (e : TheOpenErr) → result ≡ Err (CommitErr.Open e) → ⊥ }
@@ -367,6 +370,7 @@ pub fn commit<M: Manners, S: Store<M>, I: Ids, X: Change<M>>(
     ensures committed { log.new.committed.items ≡ log.old.committed.items ++ (commit_end result).versions }
     ensures left { IsLeftOf (X.meanings change.old change.new) (I.given ids.old) (I.given ids.new) table.now (commit_end result) log.old log.new }
     ensures drawn { DrawsOf (X.meanings change.old change.new).draws (commit_end result).versions (commit_end result).error (I.given ids.old) (I.given ids.new) }
+    ensures spare { IsSpareEnd result → MakesNothing (X.meanings change.old change.new) }
     ensures refused { IsRefusedBy (X.meanings change.old change.new) result }
     ensures fault_place { TellsFault (X.meanings change.old change.new) (GivesLast (X.meanings change.old change.new).draws (I.given ids.old) (I.given ids.new)) table.now result }
     ensures opening { (e : TheOpenErr) → result ≡ Err (CommitErr.Open e) → OpenFaultAt table.now e }

@@ -8,7 +8,7 @@ use Rattle.ice_store.specs.declared.faults.ReadErr.TheVariants.{Missing, Damaged
 use Rattle.commit_protocol.specs.declared.errors.Refusal.TheVariants.{UnknownSnapshot}
 use Rattle.commit_protocol.specs.declared.errors.AttemptErr.{AttemptErr}
 use Rattle.commit_protocol.specs.declared.errors.AttemptErr.TheVariants.{Refused, Conflict, NameTaken, Read}
-use Rattle.commit_protocol.specs.Meanings.{Meanings, looking}
+use Rattle.commit_protocol.specs.Meanings.{Meanings, SaysSame, looking, looking_same}
 
 -- the second metadata is the first with `main` at the snapshot, at this moment
 abbrev pub HasMain : ℤ → ℕ → Data → Data → Type 0
@@ -28,3 +28,7 @@ RefusesMain id tree (Read Memory) = Unit {0}
 -- a change that sets `main` to a snapshot, also where it is there already
 abbrev pub sets_main : ℤ → ℕ → Meanings
 sets_main id now = looking (HasMain id now) (λ tree. ⊥) (RefusesMain id) (λ tree. Unit {0})
+
+-- it says the same of tables as it does
+pub sets_main_same : (id : ℤ) (now : ℕ) → SaysSame (sets_main id now) (sets_main id now)
+sets_main_same id now = looking_same (HasMain id now) (λ tree. ⊥) (RefusesMain id)

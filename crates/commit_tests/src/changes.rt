@@ -2,7 +2,7 @@
 ghost use Rattle.std.specs.Prelude.{◌≡◌, ◌<◌, ◌^◌, codes, IfOk, IfErr};
 ghost use Rattle.serde_json.specs.View.{view};
 ghost use Rattle.table_metadata.specs.Edits.{with_ref};
-ghost use Rattle.commit_tests.specs.Mains.{RefusesMain, sets_main};
+ghost use Rattle.commit_tests.specs.Mains.{RefusesMain, sets_main, sets_main_same};
 
 use commit_protocol::{AttemptErr, Built, Change, Log, Refusal, RemoveErr};
 use ice_store::{Ids, Manners, Place, Store, Text};
@@ -20,6 +20,8 @@ pub(crate) struct SetMain {
 
 impl<M: Manners> Change<M> for SetMain {
     ghost meanings = { λ r s. sets_main r.id r.now };
+
+    ghost fixed = { λ r s t told. sets_main_same r.id r.now };
 
     fn attempt<S: Store<M>, I: Ids>(
         &mut self,

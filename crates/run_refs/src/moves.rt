@@ -1,7 +1,7 @@
 //! The change that moves a ref.
 ghost use Rattle.std.specs.Prelude.{◌≡◌, ◌<◌, ◌^◌, ◌↔◌, pos, IfOk, IfErr, IsTrue};
 ghost use Rattle.serde_json.specs.View.{view};
-ghost use Rattle.run_refs.specs.Meanings.{IsMoved, moves_of};
+ghost use Rattle.run_refs.specs.Meanings.{IsMoved, moves_of, moves_same};
 ghost use Rattle.run_refs.specs.Moves.{RefusesMove, HasSeen};
 ghost use Rattle.run_refs.specs.Reports.{move_report};
 
@@ -62,6 +62,8 @@ pub(crate) struct Moved {
 
 impl<M: Manners> Change<M> for RefMove {
     ghost meanings = { λ r s. moves_of r.goal r.now (λ tree. (s.goal ≡ r.goal) × HasSeen r.goal tree s.previous s.id) };
+
+    ghost fixed = { λ r s t told. moves_same r.goal r.now };
 
     fn attempt<S: Store<M>, I: Ids>(
         &mut self,

@@ -21,6 +21,7 @@ use Rattle.commit_protocol.specs.Kinds.{attempt_kind, commit_end, kind_of, commi
 use Rattle.commit_protocol.specs.Prepares.{GivesLast, Prepares, SparesAll}
 use Rattle.commit_protocol.specs.Rounds.{AttemptTells, left_after}
 use Rattle.commit_protocol.specs.Metadata.{HasMetadataAt}
+use Rattle.commit_protocol.specs.Withdraws.{MadeStand}
 use Rattle.commit_protocol.specs.Written.{PublishedLeaves}
 use Rattle.commit_protocol.specs.declared.change.Built.{Built}
 use Rattle.commit_protocol.specs.declared.change.Built.TheVariants.{Same as Unchanged, Next}
@@ -130,8 +131,8 @@ returns-in-Ok-Next-clause-told g c =
     let by_log = subst (λ (l : List Parts). Since p1 p2 (Does l)) c.in-Ok-Next.ensures.left c.publish_built-ended.ensures.works in
     let count : c.len-count.result ≡ length had = c.len-count.ensures ∙ c.args.log.now.left.ok.0 in
     let noted : has ≡ left_after r (length had) logged = c.settle_left.ensures.left ∙ ap (λ (n : ℕ). left_after r n logged) count in
-    since_then p0 p1 p2 (λ x y. Asks x y × meanings.met x y) (λ x y. Leaves x y × Does (had ++ meanings.made) x y) (AttemptTells t allows meanings given last c.args.now at r after had has)
-    (rounds.since_both p0 p1 Asks meanings.met c.in-Ok-Next.ensures.told c.in-Ok-Next.ensures.met) (rounds.since_both p1 p2 Leaves (Does (had ++ meanings.made)) by_manners by_log)
+    since_then p0 p1 p2 (λ x y. (Asks x y × meanings.met x y) × MadeStand t meanings.made y) (λ x y. Leaves x y × Does (had ++ meanings.made) x y) (AttemptTells t allows meanings given last c.args.now at r after had has)
+    (ends.since_at p0 p1 (λ x y. Asks x y × meanings.met x y) (MadeStand t meanings.made) (rounds.since_both p0 p1 Asks meanings.met c.in-Ok-Next.ensures.told c.in-Ok-Next.ensures.met) c.in-Ok-Next.ensures.stand) (rounds.since_both p1 p2 Leaves (Does (had ++ meanings.made)) by_manners by_log)
     (λ old mid new a b. inr (inr (record {
       limit = limit;
       saw = seen;
@@ -139,8 +140,9 @@ returns-in-Ok-Next-clause-told g c =
       is = made.0;
       ready = mid;
       before = mark;
-      prepared = rounds.prepares_at t allows meanings given last c.args.now (view meta) (view at.meta) base.place at.place kinds.Done mark old mid tree on.place_is a.0;
-      met = a.1;
+      prepared = rounds.prepares_at t allows meanings given last c.args.now (view meta) (view at.meta) base.place at.place kinds.Done mark old mid tree on.place_is a.0.0;
+      met = a.0.1;
+      stand = a.1;
       asked = asked;
       drawn = c.in-Ok-Next.ensures.drawn;
       published = b.0 at on limit;
@@ -366,3 +368,20 @@ returns-in-Err-clause-fault_place g c place is =
     let same : c.in-Err.e ≡ attempts.Read (StoreFault place) = cc (is) in
     let meanings = g.X.Change.meanings c.args.change.now c.attempt.new.self in
     inl (view c.in-Ok.parts.meta, subst (λ (x : AttemptErr). meanings.refuses (view c.in-Ok.parts.meta) x) same c.in-Err.ensures.refused)
+
+pub returns-then-not-has_version_limit-clause-spare : goal.returns-then-not-has_version_limit-clause-spare
+returns-then-not-has_version_limit-clause-spare g c spare = absurd (ends.limit_unspared c.args.at.place c.unreadable_limit.result c.unreadable_limit.ensures spare)
+
+pub returns-in_default-clause-spare : goal.returns-in_default-clause-spare
+returns-in_default-clause-spare g c spare = absurd spare
+
+pub returns-in-Ok-Next-clause-spare : goal.returns-in-Ok-Next-clause-spare
+returns-in-Ok-Next-clause-spare g c spare = absurd (c.publish_built-ended.ensures.unspared spare)
+
+pub returns-in-Ok-Same-clause-spare : goal.returns-in-Ok-Same-clause-spare
+returns-in-Ok-Same-clause-spare g c spare =
+    let meanings = g.X.Change.meanings c.args.change.now c.attempt.new.self in
+    subst (λ (b : Built). SparesAll meanings (Ok b)) c.in-Ok-Same.field-0-is c.in-Ok-Same.ensures.spare tt
+
+pub returns-in-Err-clause-spare : goal.returns-in-Err-clause-spare
+returns-in-Err-clause-spare g c spare = c.in-Err.ensures.spare spare

@@ -1,4 +1,5 @@
 use Rattle.std.proofs.Common.{◌≡◌, inl, inr, ℕ, List, [], ◌∷◌, ◌++◌, Option, Result, Ok, Err, refl, sym, ap, ◌∙◌, subst}
+use Rattle.ice_store.specs.Others.{WhereTold}
 use Rattle.ice_store.specs.Places.{Parts}
 use Rattle.ice_store.specs.Since.{Since}
 use Rattle.ice_store.proofs.SinceLaws.{since_turned, since_where}
@@ -9,15 +10,16 @@ use Rattle.commit_publish.specs.Kinds.{Counts, Marks}
 use Rattle.commit_publish.specs.Stages.{AtRest, InState}
 use Rattle.commit_protocol.specs.Ends.{DrawsOf, LeavesOf, LeavesPublished}
 use Rattle.commit_protocol.specs.Kinds.{commit_end, kind_of}
-use Rattle.commit_protocol.specs.Prepares.{GivesLast}
+use Rattle.commit_protocol.specs.Prepares.{GivesLast, IsSpareEnd}
 use Rattle.commit_protocol.specs.Rounds.{AttemptTells, RoundTells}
-use Rattle.commit_protocol.specs.Withdraws.{IsMadeAt, LeavesUnmade, Withdrawn, lost_answer, withdraw_kind}
+use Rattle.commit_protocol.specs.Withdraws.{IsMadeAt, LeavesUnmade, MadeStand, Withdrawn, lost_answer, withdraw_kind}
 use Rattle.commit_protocol.specs.declared.errors.AttemptErr.TheVariants as attempts
 use Rattle.commit_protocol.specs.declared.errors.CommitErr.{CommitErr}
 use Rattle.commit_protocol.specs.declared.errors.CommitErr.TheVariants.{Attempt, Contended, Open}
 use Rattle.commit_protocol.specs.declared.errors.Committed.{Committed}
 use Rattle.commit_protocol.proofs.EndLaws as ends
 use Rattle.commit_protocol.proofs.RoundLaws as rounds
+use Rattle.commit_protocol.proofs.StandLaws.{beaten_stand}
 use Rattle.commit_protocol.proofs.committing.attempt_on_base.Goals as goal
 
 pub returns-in-None-clause-told : goal.returns-in-None-clause-told
@@ -78,6 +80,29 @@ lost-requires-clause-rest g c =
     let Tried : Result Committed CommitErr → Past → Past → Type 0 = λ x. AttemptTells t allows meanings given last c.args.now at x before had kept in
     let tried = subst (λ (x : Result Committed CommitErr). Since p0 p1 (Tried x)) lost c.ask_and_publish-ended.ensures.told in
     since_where p0 p1 (Tried (Err (Contended version))) (InState (λ d. AtRest d.pending)) tried (λ old new told. rounds.rests t allows meanings given last c.args.now at version before had kept old new told)
+
+pub lost-requires-clause-stand : goal.lost-requires-clause-stand
+lost-requires-clause-stand g c =
+    let t = c.args.table.now in
+    let allows = g.M.Manners.allows (g.S.Store.manners c.args.store.now) in
+    let at = c.args.at in
+    let meanings = g.X.Change.meanings c.args.change.now c.ask_and_publish-ended.new.change in
+    let own = g.X.Change.meanings c.ask_and_publish-ended.new.change c.ask_and_publish-ended.new.change in
+    let given = g.I.Ids.given c.args.ids.now in
+    let last = g.I.Ids.given c.ask_and_publish-ended.new.ids in
+    let p0 = g.S.Store.past c.args.store.now in
+    let p1 = g.S.Store.past c.ask_and_publish-ended.new.store in
+    let r = c.ask_and_publish-ended.result in
+    let before = g.S.Store.halted c.ask_and_publish-ended.new.store in
+    let had = c.args.log.now.left.items in
+    let kept = c.ask_and_publish-ended.new.log.left.items in
+    let version = c.in-Some.version in
+    let lost = rounds.lost_is r version (sym c.in-Some.ensures) in
+    let Tried : Result Committed CommitErr → Past → Past → Type 0 = λ x. AttemptTells t allows meanings given last c.args.now at x before had kept in
+    let tried = subst (λ (x : Result Committed CommitErr). Since p0 p1 (Tried x)) lost c.ask_and_publish-ended.ensures.told in
+    let stands = since_where p0 p1 (Tried (Err (Contended version))) (MadeStand t meanings.made) tried
+    (λ old new told. beaten_stand t allows meanings given last c.args.now c.requires.mannered at version before had kept old new told) in
+    subst (λ (l : List Parts). WhereTold p1 (MadeStand t l)) (sym c.ask_and_publish-ended.ensures.kept) stands
 
 pub lost-requires-clause-noted : goal.lost-requires-clause-noted
 lost-requires-clause-noted g c =
@@ -316,3 +341,10 @@ returns-in-Some-clause-fault_place g c place is =
       | inl at_table ↦ inr (inl (inl at_table))
       | inr made ↦ inr (inr (subst (λ (l : List Parts). IsMadeAt l place) same made))
     ]
+
+pub returns-in-None-clause-spare : goal.returns-in-None-clause-spare
+returns-in-None-clause-spare g c spare = c.ask_and_publish-ended.ensures.spare spare
+
+pub returns-in-Some-clause-spare : goal.returns-in-Some-clause-spare
+returns-in-Some-clause-spare g c spare =
+    absurd (rounds.lost_unspared c.in-Some.version c.lost.result (subst (λ (x : Result Committed CommitErr). IsSpareEnd x) c.lost_answer.ensures spare))

@@ -233,3 +233,9 @@ returns-in-Err-clause-refused g c refusal is = absurd (cc (is))
 
 pub returns-in-Err-clause-fault_place : goal.returns-in-Err-clause-fault_place
 returns-in-Err-clause-fault_place g c place is = absurd (cc (is))
+
+pub returns-in-Ok-clause-spare : goal.returns-in-Ok-clause-spare
+returns-in-Ok-clause-spare g c spare = c.attempt_on_base.ensures.spare spare
+
+pub returns-in-Err-clause-spare : goal.returns-in-Err-clause-spare
+returns-in-Err-clause-spare g c spare = absurd spare

@@ -16,6 +16,7 @@ use Rattle.commit_protocol.specs.Ends.{DrawsBy, IsThat, LeavesBy, PublishedWorks
 use Rattle.commit_protocol.specs.Kinds.{commit_kind}
 use Rattle.commit_protocol.specs.Meanings.{LooksBy}
 use Rattle.commit_protocol.specs.Metadata.{table_rules}
+use Rattle.commit_protocol.specs.Prepares.{IsSpareEnd}
 use Rattle.commit_protocol.specs.Written.{commit_error_by}
 use Rattle.ice_store.specs.declared.faults.ReadErr.TheVariants.{StoreFault}
 use Rattle.commit_protocol.specs.declared.errors.AttemptErr.TheVariants as attempts
@@ -285,3 +286,15 @@ returns-in-Err-publish_version-clause-fault_place g c place is =
     let told : ◌≡◌ {A = CommitErr} c.commit_error.result (Attempt (attempts.Read (StoreFault place))) = cc (is) in
     let error : c.commit_error.result ≡ commit_error_by e w.route.draft t v = c.commit_error.ensures ∙ ap (λ (x : Parts). commit_error_by e w.route.draft x v) written.table_is in
     inr (inl (ends.publish_place w.route.draft t v (Gives (g.I.Ids.given c.args.ids.now) (g.I.Ids.given c.next-id.new.self)) c.next-id.result c.next-id.ensures written.draft_is place e (sym error ∙ told)))
+
+pub returns-in-Err-clause-unspared : goal.returns-in-Err-clause-unspared
+returns-in-Err-clause-unspared g c spare =
+    ends.unwritten_unspared c.args.table.now c.args.base (view c.args.meta) c.args.now c.next-id.result c.in-Err.e c.in-Err.ensures.err spare
+
+pub returns-in-Ok-publish_version-clause-unspared : goal.returns-in-Ok-publish_version-clause-unspared
+returns-in-Ok-publish_version-clause-unspared g c spare = spare
+
+pub returns-in-Err-publish_version-clause-unspared : goal.returns-in-Err-publish_version-clause-unspared
+returns-in-Err-publish_version-clause-unspared g c spare =
+    let w = c.in-Ok.written in
+    ends.publish_unspared w.route.draft w.route.table (c.args.base.version + 1) c.in-Err-publish_version.e (subst (λ (x : CommitErr). IsSpareEnd (Err x)) c.commit_error.ensures spare)

@@ -4,8 +4,8 @@ use Rattle.serde_json.specs.Data.{Data}
 use Rattle.serde_json.specs.View.{view}
 use Rattle.table_metadata.specs.Edits.{with_ref}
 use Rattle.commit_protocol.specs.Attempts.{StaysTable}
-use Rattle.commit_protocol.proofs.RoundLaws.{looks_by, met_nothing, told_nothing}
-use Rattle.commit_tests.specs.Mains.{HasMain, RefusesMain}
+use Rattle.commit_protocol.proofs.RoundLaws.{looks_by, met_nothing, none_stand, none_stand_on, told_nothing}
+use Rattle.commit_tests.specs.Mains.{HasMain, RefusesMain, sets_main_same}
 use Rattle.commit_tests.proofs.MainLaws.{stays_table}
 use Rattle.commit_tests.proofs.changes.SetMainChange.attempt.Goals as goal
 
@@ -45,3 +45,15 @@ returns-in_err-built-clause-spare g c spare = record { made = refl; draws = refl
 
 pub returns-clause-spare : goal.returns-clause-spare
 returns-clause-spare g c spare = record { made = refl; draws = refl }
+
+pub returns-in_err-built-clause-stand : goal.returns-in_err-built-clause-stand
+returns-in_err-built-clause-stand g c = none_stand_on c.from_residual.result c.args._table.now (g.S.Store.past c.args._store.now)
+
+pub returns-clause-stand : goal.returns-clause-stand
+returns-clause-stand g c = none_stand c.args._table.now (g.S.Store.past c.args._store.now)
+
+pub returns-in_err-built-clause-keeps : goal.returns-in_err-built-clause-keeps
+returns-in_err-built-clause-keeps g c = sets_main_same c.args.self.now.id c.args.self.now.now
+
+pub returns-clause-keeps : goal.returns-clause-keeps
+returns-clause-keeps g c = sets_main_same c.args.self.now.id c.args.self.now.now

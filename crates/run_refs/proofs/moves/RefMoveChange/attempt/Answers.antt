@@ -1,6 +1,7 @@
 use Rattle.std.proofs.Common.{refl, sym, append-nil, rules}
 use Rattle.serde_json.specs.View.{view}
-use Rattle.commit_protocol.proofs.RoundLaws.{looks_by, met_nothing, told_nothing}
+use Rattle.commit_protocol.proofs.RoundLaws.{looks_by, met_nothing, none_stand, none_stand_on, told_nothing}
+use Rattle.run_refs.specs.Meanings.{moves_same}
 use Rattle.run_refs.specs.Moves.{HasSeen, IsThere, Moves, RefusesMove}
 use Rattle.run_refs.proofs.moves.RefMoveChange.attempt.Goals as goal
 
@@ -31,3 +32,15 @@ returns-in_err-moved-clause-spare g c spare = record { made = refl; draws = refl
 
 pub returns-clause-spare : goal.returns-clause-spare
 returns-clause-spare g c spare = record { made = refl; draws = refl }
+
+pub returns-in_err-moved-clause-stand : goal.returns-in_err-moved-clause-stand
+returns-in_err-moved-clause-stand g c = none_stand_on c.from_residual.result c.args._table.now (g.S.Store.past c.args._store.now)
+
+pub returns-clause-stand : goal.returns-clause-stand
+returns-clause-stand g c = none_stand c.args._table.now (g.S.Store.past c.args._store.now)
+
+pub returns-in_err-moved-clause-keeps : goal.returns-in_err-moved-clause-keeps
+returns-in_err-moved-clause-keeps g c = moves_same c.args.self.now.goal c.args.self.now.now
+
+pub returns-clause-keeps : goal.returns-clause-keeps
+returns-clause-keeps g c = moves_same c.args.self.now.goal c.args.self.now.now
