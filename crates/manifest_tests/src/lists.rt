@@ -1,13 +1,20 @@
 //! Manifest lists as files.
 
+ghost use Rattle.std.specs.Prelude.{IfOk};
+ghost use Rattle.manifest_writing.specs.Lists.{IsWritable};
+
+use avro_schema::Text;
 use manifest_codec::{
     ManifestCause, ManifestErr, lists_are_spelled, read_list, spelled_lists_are_read,
 };
+use manifest_rows::ManifestRow;
+use manifest_writing::write_list;
+use std::alloc::{AllocError, Global};
 use std::process::Abort;
 use std::test::Fail;
 
-/// A list of two equal rows of deletes: /m, 7 bytes, spec 1, sequences 4 and 3, snapshot 9. The bytes were written by
-/// a Python program, after the Avro specification.
+/// A list of two equal rows of deletes: /m, 7 bytes, spec 1, sequences 4 and 3, snapshot 9, one new file with two rows. The
+/// bytes were written by a Python program, after the Avro specification.
 const TWO_ROWS: &[u8] =
     b"Obj\x01\x04\x14avro.codec\x08null\x16avro.schema\xc6\x14{\"fields\":[{\"field-id\":500,\"name\":\"manifest_pat\
     h\",\"type\":\"string\"},{\"field-id\":501,\"name\":\"manifest_length\",\"type\":\"long\"},{\"field-id\":502,\
@@ -54,5 +61,38 @@ fn a_list_that_is_cut(rt: HostRuntime) -> Result<(), Fail> {
         _ => 0,
     };
     assert_eq!(rt; at, 1418);
+    Ok(())
+}
+
+/// A row of that list, which begins elsewhere.
+fn row_of_deletes(alloc: Global) -> Result<ManifestRow, AllocError>
+    ensures { IfOk result IsWritable }
+{
+    Ok(ManifestRow {
+        manifest_path: Text::new(String::from_str(alloc, "/m")?),
+        manifest_length: 7,
+        partition_spec_id: 1,
+        is_deletes: true,
+        sequence_number: 4,
+        min_sequence_number: 3,
+        added_snapshot_id: 9,
+        added_files_count: 1,
+        existing_files_count: 0,
+        deleted_files_count: 0,
+        added_rows_count: 2,
+        existing_rows_count: 0,
+        deleted_rows_count: 0,
+        partitions: None,
+        key_metadata: None,
+        at: 5,
+    })
+}
+
+#[test]
+fn a_list_is_written(rt: HostRuntime) -> Result<(), Fail> {
+    let rows = [row_of_deletes(rt.alloc())?, row_of_deletes(rt.alloc())?];
+    let sync = [0, 1, 2, 3, 4, 5, 6, 7, 8, 9, 10, 11, 12, 13, 14, 15];
+    let written = write_list(rt.alloc(), &rows, &sync)?;
+    assert!(rt; written.inner().as_slice() == TWO_ROWS);
     Ok(())
 }
