@@ -4,3 +4,4 @@ pub mod Tame
 pub mod RowValues
 pub mod Loops
 pub mod Texts
+pub mod ReadRows

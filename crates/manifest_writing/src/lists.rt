@@ -3,6 +3,7 @@
 ghost use Rattle.std.specs.Prelude.{◌≡◌, ◌<◌, All, map, IfOk, OnOk, IsUtf8, IsSomeAnd, codes};
 ghost use Rattle.avro_container.specs.Container.{value_of};
 ghost use Rattle.manifest_writing.specs.Files.{Puts, PutsAll};
+ghost use Rattle.manifest_writing.specs.Laws.{ReadRowsAreWritable};
 ghost use Rattle.manifest_writing.specs.Lists.{IntsFit, IsWritable, LongsFit, WritesList, list_meta, list_schema, row_bytes};
 
 use crate::files::{key, schema_text};
@@ -95,3 +96,8 @@ pub fn write_list(alloc: Global, rows: &[ManifestRow], sync: &[u8; 16]) -> Resul
     put_rows(alloc, &schema, rows, sync, &mut blocks)?;
     finish(blocks, sync)
 }
+
+/// Rows that were read may be written: `write_list` takes what was read of a list.
+pub fn read_rows_are_writable()
+    ensures { ReadRowsAreWritable }
+{}
