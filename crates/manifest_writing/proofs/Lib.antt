@@ -5,3 +5,6 @@ pub mod RowValues
 pub mod Loops
 pub mod Texts
 pub mod ReadRows
+pub mod SchemaBack
+pub mod Columns
+pub mod ReadBack
