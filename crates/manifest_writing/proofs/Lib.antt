@@ -4,3 +4,7 @@ pub mod Tame
 pub mod RowValues
 pub mod Loops
 pub mod Texts
+pub mod ReadRows
+pub mod SchemaBack
+pub mod Columns
+pub mod ReadBack

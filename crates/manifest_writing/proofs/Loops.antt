@@ -1,6 +1,8 @@
 -- Objects put one after the other.
-use Rattle.std.proofs.Common.{◌≡◌, ◌<◌, ◌≤◌, ◌+◌, ℕ, List, [], ◌∷◌, ◌++◌, length, map, drop, get_or, Result, Ok, Err, refl, sym, ap, ◌∙◌, subst, arith}
+use Rattle.std.proofs.Common.{◌≡◌, ◌<◌, ◌≤◌, ◌+◌, ℕ, List, [], ◌∷◌, ◌++◌, length, map, drop, take, get_or, All, OnOk, take_all, Result, Ok, Err, refl, sym, ap, ◌∙◌, subst, arith}
+use Rattle.std.specs.List.{AllByRecursion}
 use Rattle.std.proofs.lemmas.List.{append-nil, at_drop_all}
+use Rattle.std.proofs.lemmas.List.Elements.{All-from_recursion, recursion_from_All, All-more}
 use Rattle.avro_container.specs.Container.{Pair}
 use Rattle.avro_datum.proofs.NoBytes.{item_at}
 use Rattle.avro_container.specs.ContainerWriting.{AppendsHeader}
@@ -44,3 +46,18 @@ pub ended : (meta : List Pair) (head sync : List ℕ) (objects : List (List ℕ)
 ended meta head sync objects (Ok bytes) a h = record { head = head; header = a; is = h.0; fits = h.1 }
 ended meta head sync objects (Err errors.Memory) a h = tt
 ended meta head sync objects (Err errors.TooLarge) a h = h
+
+-- what holds of one more element
+pub holds_of_next : {A : Type 0} (P : A → Type 0) (xs : List A) (i : ℕ) (x : A) → i < length xs → x ≡ get_or xs i x → AllByRecursion P (take i xs) → P x → AllByRecursion P (take (i + 1) xs)
+holds_of_next P xs i x h e so_far p = recursion_from_All P (take (i + 1) xs) (All-more P xs i x h (All-from_recursion P (take i xs) so_far) (subst P e p))
+
+-- no element is left
+pub holds_of_all : {A : Type 0} (P : A → Type 0) (xs : List A) (i : ℕ) → length xs ≤ i → AllByRecursion P (take i xs) → All P xs
+holds_of_all {A = A} P xs i h so_far =
+    let Q : List A → Type 0 = AllByRecursion P in
+    All-from_recursion P xs (subst Q (take_all i xs h) so_far)
+
+-- what holds whether it ended well or not
+pub on_ok : {E P : Type 0} (r : Result (Unit {0}) E) → P → OnOk r P
+on_ok (Ok done) p = p
+on_ok (Err e) p = tt

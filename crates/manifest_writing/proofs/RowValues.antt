@@ -6,7 +6,7 @@ use Rattle.avro_container.specs.Long.{zigzag}
 use Rattle.avro_schema.specs.declared.schema.Logical.TheVariants.{Plain}
 use Rattle.avro_schema.specs.declared.schema.Schema.{Schema}
 use Rattle.avro_schema.specs.declared.schema.Schema.TheVariants as types
-use Rattle.avro_schema.specs.Form.{Form, null, boolean, int, long, bytes, string, array, fields, union, no_forms, form, forms_of, form_of, field_form}
+use Rattle.avro_schema.specs.Form.{Form, null, boolean, int, long, bytes, string, array, fields, union, no_forms, form, forms_of, form_of, field_form, depth}
 use Rattle.manifest_writing.proofs.SchemaKinds.{form-Null, form-Boolean, form-Int, form-Long, form-Blob, form-Str, form-Array, form-Fields, form-Union, form-field}
 use Rattle.avro_datum.specs.declared.datum.Datum.{Datum}
 use Rattle.avro_datum.specs.declared.datum.Datum.TheVariants.{Null, Bool as Truth, Int, Long, Blob, Str, Fields}
@@ -76,6 +76,13 @@ row_forms_are =
 
 pub form_is : form_of list_schema ≡ fields (forms_of row_forms)
 form_is = form-Fields (record_name_of names.ManifestFile) (map written_field written_row_columns) ∙ ap (λ (fs : List Form). fields (forms_of fs)) row_forms_are
+
+shallow_forms : depth (fields (forms_of row_forms)) ≤ 32
+unfolding row_forms summary_forms nullable
+shallow_forms = omega arith
+
+pub is_shallow : depth (form_of list_schema) ≤ 32
+is_shallow = subst (λ (f : Form). depth f ≤ 32) (sym form_is) shallow_forms
 
 -- A number in the range of its type.
 is_int : (z : ℤ) → FitsSigned w32 z → IsInt z

@@ -2,6 +2,7 @@
 use Rattle.std.proofs.Common.{◌≡◌, ℕ, zero, suc, ℤ, ◌<◌, ◌≤◌, ◌*◌, List, [], ◌∷◌, map, codes, Bool, true, false, cond, Option, Some, None, refl, sym, ap, subst, ◌∙◌, arith, rules}
 use Rattle.std.specs.List.{AllByRecursion}
 use Rattle.serde_json.specs.Data.{Data, null, boolean, number, string, array, object, unsigned, Items, item, Members, no_members, put, depth as data_depth}
+use Rattle.serde_json.specs.Read.{read}
 use Rattle.serde_json.specs.Written.{has_float}
 use Rattle.serde_json.specs.View.{items_of}
 use Rattle.avro_schema.specs.declared.schema.Field.{Field, fold_out-Field}
@@ -21,7 +22,7 @@ strings-map : (ts : List (List ℕ)) → items_of (map string ts) ≡ strings ts
 strings-map [] = refl
 strings-map (t ∷ ts) = ap (item (string t)) (strings-map ts)
 
-field-written : (f : Field) (names : List (List ℕ)) → written_field f names ≡ (field_tree f.name (written_type f.schema names).0 f.field_id, (written_type f.schema names).1)
+pub field-written : (f : Field) (names : List (List ℕ)) → written_field f names ≡ (field_tree f.name (written_type f.schema names).0 f.field_id, (written_type f.schema names).1)
 field-written f names = ap (λ (w : Writes Data). w names) (fold_out-Field (Writes Data) (Writes Data) schema_step field_step f)
 
 -- Members.
@@ -196,3 +197,9 @@ no_float s = (type_tame (depth (form_of s)) s (omega arith) []).0
 pub shallow : (s : Schema) → depth (form_of s) ≤ 32 → data_depth (written_schema s) ≤ 127
 unfolding written_schema
 shallow s h = omega (arith, (type_tame 32 s h []).1)
+
+-- the text of such a tree is read
+pub text_reads : (s : Schema) (d : Data) (text : List ℕ) → d ≡ written_schema s → (data_depth d ≤ 127 → read text ≡ Some d) → depth (form_of s) ≤ 32 → read text ≡ Some (written_schema s)
+text_reads s d text e h fits =
+    let P : Data → Type 0 = λ d. data_depth d ≤ 127 → read text ≡ Some d in
+    subst P e h (shallow s fits)

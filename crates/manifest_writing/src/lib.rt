@@ -4,5 +4,5 @@
 mod files;
 mod lists;
 
-pub use lists::write_list;
+pub use lists::{read_rows_are_writable, write_list};
 pub use manifest_blocks::WriteErr;

@@ -1,8 +1,11 @@
 //! Manifest lists.
 
-ghost use Rattle.std.specs.Prelude.{◌≡◌, ◌<◌, All, map, IfOk, OnOk, IsUtf8, IsSomeAnd, codes};
+ghost use Rattle.std.specs.Prelude.{◌≡◌, ◌<◌, All, map, IfOk, OnOk, IsUtf8, IsSomeAnd, Some, codes};
+ghost use Rattle.serde_json.specs.Read.{read};
 ghost use Rattle.avro_container.specs.Container.{value_of};
-ghost use Rattle.manifest_writing.specs.Files.{Puts, PutsAll};
+ghost use Rattle.avro_schema.specs.Writing.{written_schema};
+ghost use Rattle.manifest_writing.specs.Files.{Puts, PutsAll, schema_text};
+ghost use Rattle.manifest_writing.specs.Laws.{IsSpelled, ReadRowsAreWritable, ReadsBack};
 ghost use Rattle.manifest_writing.specs.Lists.{IntsFit, IsWritable, LongsFit, WritesList, list_meta, list_schema, row_bytes};
 
 use crate::files::{key, schema_text};
@@ -43,6 +46,7 @@ fn put_row(
     requires room { blocks.old.count < 64000 }
     ensures puts { Puts sync.now (row_bytes row.now) blocks.old blocks.new result }
     ensures room { OnOk result (blocks.new.count < 64000) }
+    ensures spelled { OnOk result (IsSpelled row.now) }
 {
     ints_fit(row);
     longs_fit(row);
@@ -64,6 +68,7 @@ fn put_rows(
     requires room { blocks.old.count < 64000 }
     ensures puts { PutsAll sync.now (map row_bytes rows.now) blocks.old blocks.new result }
     ensures room { OnOk result (blocks.new.count < 64000) }
+    ensures spelled { OnOk result (All IsSpelled rows.now) }
 {
     for row in rows {
         put_row(alloc, schema, row, sync, blocks)?;
@@ -71,11 +76,13 @@ fn put_rows(
     Ok(())
 }
 
-// The metadata of a list.
+// The metadata of a list, whose text is read as the tree of the schema.
+#[tactic(auto, using(crate::proofs::ReadBack::list_reads))]
 fn list_meta(alloc: Global, schema: &Schema) -> Result<MetaList, AllocError>
     requires { schema.now ≡ list_schema }
     ensures meta { IfOk result (λ m. m ≡ list_meta) }
     ensures utf8 { IfOk result (λ m. IsSomeAnd (value_of (codes "avro.schema") m) IsUtf8) }
+    ensures reads { OnOk result (read (schema_text list_schema) ≡ Some (written_schema list_schema)) }
 {
     let mut pairs = Vec::new(alloc);
     pairs.push((key(alloc, "avro.schema")?, schema_text(alloc, schema)?))?;
@@ -88,6 +95,8 @@ pub fn write_list(alloc: Global, rows: &[ManifestRow], sync: &[u8; 16]) -> Resul
     requires { All IsWritable rows.now }
     // The written spelling; `TooLarge` where one of its blocks would be.
     ensures written { WritesList rows.now sync.now result }
+    // It is read as these rows, each with the place where it begins.
+    ensures read_back { IfOk result (ReadsBack rows.now) }
 {
     let schema = row_schema(alloc)?;
     let meta = list_meta(alloc, &schema)?;
@@ -95,3 +104,8 @@ pub fn write_list(alloc: Global, rows: &[ManifestRow], sync: &[u8; 16]) -> Resul
     put_rows(alloc, &schema, rows, sync, &mut blocks)?;
     finish(blocks, sync)
 }
+
+/// Rows that were read may be written: `write_list` takes what was read of a list.
+pub fn read_rows_are_writable()
+    ensures { ReadRowsAreWritable }
+{}

@@ -7,6 +7,7 @@ use Rattle.avro_container.specs.ContainerWriting.{AppendsHeader}
 use Rattle.manifest_writing.specs.Lists.{list_meta, row_bytes}
 use Rattle.manifest_writing.proofs.Texts.{ascii}
 use Rattle.manifest_writing.proofs.Loops.{at_start, refused, ended}
+use Rattle.manifest_writing.proofs.ReadBack.{read_of}
 use Rattle.manifest_writing.proofs.lists.write_list.Goals as goal
 
 pub begin-requires-clause-keys : goal.begin-requires-clause-keys
@@ -25,11 +26,12 @@ returns-in_err-put_rows c =
     let r = err_from_is_err_and c.from_residual-in_err-put_rows.result c.from_residual-in_err-put_rows.ensures.1 in
     let head = c.in_ok-blocks.blocks.file.items in
     let objects = map row_bytes c.args.rows.now in
-    record { written = rw (r.1, r.2) (refused list_meta head c.args.sync.now objects [] c.put_rows.new.blocks _ (c.in_err-put_rows.ensures.puts head objects (at_start head c.args.sync.now objects _ c.in_ok-blocks.ensures.empty))) }
+    record { written = rw (r.1, r.2) (refused list_meta head c.args.sync.now objects [] c.put_rows.new.blocks _ (c.in_err-put_rows.ensures.puts head objects (at_start head c.args.sync.now objects _ c.in_ok-blocks.ensures.empty))); read_back = rw r.1 tt }
 
 pub returns : goal.returns
 returns c =
     let head = c.in_ok-blocks.blocks.file.items in
     let objects = map row_bytes c.args.rows.now in
     let P : List Pair → Type 0 = λ (m : List Pair). AppendsHeader m c.args.sync.now [] head in
-    record { written = ended list_meta head c.args.sync.now objects c.finish.result (subst P c.in_ok-meta.ensures.meta c.in_ok-blocks.ensures.header) (c.finish.ensures.finishes head objects (c.in_ok-put_rows.ensures.puts head objects (at_start head c.args.sync.now objects _ c.in_ok-blocks.ensures.empty))) }
+    let written = ended list_meta head c.args.sync.now objects c.finish.result (subst P c.in_ok-meta.ensures.meta c.in_ok-blocks.ensures.header) (c.finish.ensures.finishes head objects (c.in_ok-put_rows.ensures.puts head objects (at_start head c.args.sync.now objects _ c.in_ok-blocks.ensures.empty))) in
+    record { written = written; read_back = read_of c.args.rows.now c.args.sync.now c.finish.result c.in_ok-put_rows.ensures.spelled c.in_ok-meta.ensures.reads written }
